@@ -34,7 +34,8 @@ from dataclasses import dataclass, field, replace
 
 from kit import rt
 
-COUNTED = {"crontool": ["page_counts", "ics_events", "collision_rows", "tab_rows", "stamp_rows", "missed_rows", "look_rows"]}
+COUNTED = {"crontool": ["page_counts", "ics_events", "collision_rows", "tab_rows", "stamp_rows", "missed_rows", "look_rows",
+                        "plan_rows", "window_cases", "rota_rows"]}
 INDENT, ON_ERROR, ANY, NO_LINE_FEED = b"  ", b"2> ", b"...", rb"\c"
 ESCAPE = re.compile(rb"\\(?:x(?P<byte>[0-9a-f]{2})|\{(?P<again>[^}]+)\*(?P<count>\d+)\}|(?P<letter>.))")
 LETTERS = {b"\\": b"\\", b"t": b"\t", b"r": b"\r"}

@@ -150,8 +150,8 @@ ROTAS = [
     (3, "Casablanca", "0 0,30 2 * * *", "2024-01-01", "2024-01-01", "2026-01-01", 3), (3, "Casablanca", "0 0 9 * * Mon", "2023-01-02 10:00", "2024-02-01", "2025-05-01", 2),
 ]
 REFUSED = [
-    (0, "0 5 0", "refused"), (3, "5 5 1", "refused"), (3, "5 6 1;7 6 1", "refused"), (3, "5 6 2;7 8 3", "refused"), (1, "5 6 0", "taken"),
-    (1, "", "taken"), (0, "", "refused"), (2, "5 6 9;6 5 9", "refused"), (3, "5 6 2;1 9 0;5 6 1", "taken"),
+    (0, "0 5 0"), (3, "5 5 1"), (3, "5 6 1;7 6 1"), (3, "5 6 2;7 8 3"), (1, "5 6 0"), (1, ""), (0, ""), (2, "5 6 9;6 5 9"), (3, "5 6 2;1 9 0;5 6 1"),
+    (2, "1 2 0;3 4 1;9 8 0;5 6 2"), (2, "1 2 0;3 4 2;9 8 0"), (4, "-5 -4 3;-4 -5 3;0 1 0"), (0, "5 4 7"),
 ]
 
 
@@ -211,6 +211,13 @@ def rows_of_rotas():
     return lines, who
 
 
+def refusal(people, swaps):
+    """Returns why so many people and swaps are no rota, by the first swap that is wrong, or `taken`."""
+    parts = [[int(it) for it in part.split()] for part in swaps.split(";") if part]
+    wrong = [place for place, (first, end, person) in enumerate(parts) if end <= first or person >= people]
+    return "no people" if people == 0 else f"swap {wrong[0]}" if wrong else "taken"
+
+
 def zone_lines():
     """Gives the lines of zones.txt: a name and the bytes of its file."""
     for name, path in ZONES.items():
@@ -224,11 +231,12 @@ def main():
     folder, = sys.argv[1:]
     windows, states = rows_of_windows()
     rotas, who = rows_of_rotas()
-    refused = [f"{people}\t{swaps}\t{answer}" for people, swaps, answer in REFUSED]
+    refused = [f"{people}\t{swaps}\t{refusal(people, swaps)}" for people, swaps in REFUSED]
     files = {"windows.tsv": windows, "states.tsv": states, "rotas.tsv": rotas, "who.tsv": who, "refused.tsv": refused, "zones.txt": zone_lines()}
     for name, rows in files.items():
         with open(os.path.join(folder, name), "w", encoding="utf-8") as file:
             file.writelines(f"{row}\n" for row in rows)
 
 
-main()
+if __name__ == "__main__":
+    main()

@@ -1,13 +1,11 @@
 -- A text that means something is read as that.
-use Rattle.std.proofs.Common.{◌≡◌, ℕ, List, [], ◌∷◌, Ok, Err, sym, ap, ◌∙◌}
-use Rattle.cron_text.specs.Meaning.{Means}
+use Rattle.std.proofs.Common.{◌≡◌, ℕ, List, [], ◌∷◌, sym, ap, ◌∙◌}
 use Rattle.cron_text.proofs.MeaningLemmas.{means_once}
 use Rattle.cron_units.specs.Sets.{Sets}
 use Rattle.cron_crontab.specs.Crontab as tabs
 use Rattle.cron_crontab.specs.Crontab.{Meaning, outcome_of, reboot, schedules, words}
 use Rattle.cron_dialects.proofs.LawLemmas.{meanings_agree}
-use Rattle.cron_answers.specs.Expressions.{IsRead, KeepsCrontabs, KeepsOwn}
-use Rattle.cron_answers.specs.declared.expression.Expression.{Expression}
+use Rattle.cron_answers.specs.Expressions.{KeepsCrontabs, KeepsOwn}
 use Rattle.cron_answers.specs.declared.expression.Expression.TheVariants.{Crontab, Reboot, Own, Quartz}
 
 same_schedules : (ss ts : List Sets) → schedules ss ≡ schedules ts → ss ≡ ts

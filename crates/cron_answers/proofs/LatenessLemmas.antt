@@ -1,19 +1,16 @@
 -- The first fire that was missed.
-use Rattle.std.proofs.Common.{◌≡◌, List, ℕ, ◌≤◌, ℤ, pos, ◌+ℤ◌, ◌≤ℤ◌, ◌<ℤ◌, int_lt, Bool, true, false, cond, Option, Some, None, inl, inr, refl, ap, ◌∙◌, arith}
+use Rattle.std.proofs.Common.{◌≡◌, ℕ, ◌≤◌, ℤ, pos, ◌+ℤ◌, ◌≤ℤ◌, ◌<ℤ◌, int_lt, Bool, true, false, cond, Option, Some, None, inl, inr, refl, ap, ◌∙◌, arith}
 use Rattle.std.specs.Prelude.{int_le}
 use Rattle.std.proofs.lemmas.Int.{ints}
 use Rattle.jiff_core.proofs.SignedLemmas.{signed_arith}
 use Rattle.jiff_tz.specs.declared.timezone.TimeZone.{TimeZone}
-use Rattle.cron_units.specs.Sets.{Sets}
 use Rattle.cron_dues.specs.Due.{Due, clock_of, due_instant, instant}
 use Rattle.cron_instants.specs.Order.{comes_before}
 use Rattle.cron_instants.proofs.OrderLemmas.{before-false, before-true}
 use Rattle.cron_dues.proofs.DueLemmas.{due_ascends, fire_due}
 use Rattle.cron_dues.proofs.MemberLemmas as member
 use Rattle.cron_dues.specs.FirstDues.{IsDue, IsFirstDueAfter}
-use Rattle.cron_unions.specs.Unions.{any_of}
-use Rattle.cron_time.specs.Seconds.{matching_seconds}
-use Rattle.cron_unions.specs.Nearest.{is_match_any}
+use Rattle.cron_time.specs.Seconds.{Seconds, is_match, matching_seconds}
 use Rattle.cron_dues.proofs.MemberLemmas.{sets-match}
 use Rattle.cron_answers.specs.Lateness.{IsFirstAfter, IsFirstMissed, missed_at, missed_of, nanos}
 
@@ -23,11 +20,11 @@ lt_of a b h = grind (arith, ints)
 of_lt : (a b : ℤ) → a <ℤ b → int_lt a b ≡ true
 of_lt a b h = grind (arith, ints)
 
--- of the due fires of several schedules none with a lesser nominal second has a later instant
-no_later : (ss : List Sets) (z : TimeZone) (d e : Due) → IsDue (any_of ss) z d → IsDue (any_of ss) z e → d.second ≤ e.second → instant d ≤ℤ instant e
-no_later ss z d e here there le =
-    let one = member.own-of (matching_seconds (any_of ss)) (is_match_any ss) (clock_of z) (sets-match (any_of ss)) d here in
-    let other = member.own-of (matching_seconds (any_of ss)) (is_match_any ss) (clock_of z) (sets-match (any_of ss)) e there in
+-- of the due fires of a set none with a lesser nominal second has a later instant
+no_later : (s : Seconds) (z : TimeZone) (d e : Due) → IsDue s z d → IsDue s z e → d.second ≤ e.second → instant d ≤ℤ instant e
+no_later s z d e here there le =
+    let one = member.own-of (matching_seconds s) (is_match s) (clock_of z) (sets-match s) d here in
+    let other = member.own-of (matching_seconds s) (is_match s) (clock_of z) (sets-match s) e there in
     let first : instant d ≡ due_instant z d.second = ap instant one.own ∙ fire_due (clock_of z) d.second in
     let second : instant e ≡ due_instant z e.second = ap instant other.own ∙ fire_due (clock_of z) e.second in
     let ascends = due_ascends (clock_of z) d.second e.second (omega (arith, signed_arith)) in rw (first, second) ascends
@@ -52,14 +49,14 @@ no_later_by i j c d h =
       | inr both ↦ let same = both.0 in omega (arith, signed_arith)
     ]
 
-pub first_due_after : (ss : List Sets) (z : TimeZone) (t : ℤ) (answer : Option Due) → IsFirstDueAfter (any_of ss) z t answer
-    → IsFirstAfter (IsDue (any_of ss) z) instant (λ d. d.second) t answer
-first_due_after ss z t None h = λ d is after. h d (is, of_lt t (nanos (instant d)) after)
-first_due_after ss z t (Some d) h =
-    let first : (e : Due) → IsDue (any_of ss) z e → t <ℤ nanos (instant e) → d.second ≤ e.second = λ e is after. h.1 e (is, of_lt t (nanos (instant e)) after) in (
+pub first_due_after : (s : Seconds) (z : TimeZone) (t : ℤ) (answer : Option Due) → IsFirstDueAfter s z t answer
+    → IsFirstAfter (IsDue s z) instant (λ d. d.second) t answer
+first_due_after s z t None h = λ d is after. h d (is, of_lt t (nanos (instant d)) after)
+first_due_after s z t (Some d) h =
+    let first : (e : Due) → IsDue s z e → t <ℤ nanos (instant e) → d.second ≤ e.second = λ e is after. h.1 e (is, of_lt t (nanos (instant e)) after) in (
       h.0.0,
       lt_of t (nanos (instant d)) h.0.1,
-      λ e is after. not_preceded (instant e) (instant d) e.second d.second (no_later ss z d e h.0.0 is (first e is after)) (first e is after),
+      λ e is after. not_preceded (instant e) (instant d) e.second d.second (no_later s z d e h.0.0 is (first e is after)) (first e is after),
     )
 
 -- the first that comes after the last run is missed, or none is

@@ -1,7 +1,7 @@
 -- Lines in place of an expression, what is written of it, and why nothing can be explained.
 use Rattle.std.proofs.Common.{◌≡◌, subst, ℕ, ℤ, false, List}
 use Rattle.std.specs.String.{string_bytes}
-use Rattle.cron_units.specs.Sets.{Sets}
+use Rattle.cron_time.specs.Seconds.{Seconds}
 use Rattle.cron_fires.specs.declared.changes.ClockChanges.{ClockChanges}
 use Rattle.cron_crontab.specs.Views.{expression_view}
 use Rattle.cron_tab_lines.specs.Lines as lines
@@ -12,7 +12,7 @@ use Rattle.cron_tab_lines.specs.declared.kinds.Entry.{Entry}
 use Rattle.jiff_tz.specs.declared.timezone.TimeZone.{TimeZone}
 use Rattle.cron_answers.specs.Answers.{Given, IsNotAsked, IsOpened}
 use Rattle.cron_answers.specs.Explanations.{IsUnexplained, IsYearAfter, start_of}
-use Rattle.cron_answers.specs.Expressions.{changes_by, schedules_of}
+use Rattle.cron_answers.specs.Expressions.{changes_by}
 use Rattle.cron_answers.specs.Inner.Explanations.{AreTexts}
 use Rattle.cron_answers.specs.Reports.{IsHead, tally_text}
 use Rattle.cron_answers.specs.Tallies.{IsTallyBy}
@@ -54,17 +54,15 @@ not_asked g r old new (Format word) e z reads opened h = absurd h
 not_asked g r old new NoMemory e z reads opened h = absurd h
 
 -- the texts before and after the rows, of what was found for them
-pub made_texts : (r : Request) (e : Expression) (z : TimeZone) (asked : Asked) (texts : Texts) (start end : ℤ) (changes : ClockChanges) (schedules : List Sets)
-    (tally : Tally) → IsHead r.form r.expression.now e (string_bytes texts.head) → start ≡ start_of asked → IsYearAfter start end
-    → changes ≡ changes_by r.changes e → schedules ≡ schedules_of e → IsTallyBy changes schedules z start end tally
-    → string_bytes texts.tail ≡ tally_text r.form tally → AreTexts r e z asked texts
-made_texts r e z asked texts start end changes schedules tally head from year by of is_tally tail = record {
+pub made_texts : (r : Request) (e : Expression) (s : Seconds) (z : TimeZone) (asked : Asked) (texts : Texts) (start end : ℤ) (changes : ClockChanges) (tally : Tally)
+    → IsHead r.form r.expression.now e r.plan_lines.now (string_bytes texts.head) → start ≡ start_of asked → IsYearAfter start end
+    → changes ≡ changes_by r.changes e → IsTallyBy changes s z start end tally
+    → string_bytes texts.tail ≡ tally_text r.form tally → AreTexts r e s z asked texts
+made_texts r e s z asked texts start end changes tally head from year by is_tally tail = record {
   is_head = head;
   end = end;
-  is_end = subst (λ s. IsYearAfter s end) from year;
+  is_end = subst (λ at. IsYearAfter at end) from year;
   tally = tally;
-  is_tally = subst (λ s. IsTallyBy (changes_by r.changes e) (schedules_of e) z s end tally) from (
-      subst (λ ss. IsTallyBy (changes_by r.changes e) ss z start end tally) of (subst (λ rule. IsTallyBy rule schedules z start end tally) by is_tally)
-      );
+  is_tally = subst (λ at. IsTallyBy (changes_by r.changes e) s z at end tally) from (subst (λ rule. IsTallyBy rule s z start end tally) by is_tally);
   tail = tail;
 }

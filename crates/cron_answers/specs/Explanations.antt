@@ -5,7 +5,7 @@ use Rattle.jiff_tz.specs.declared.timezone.TimeZone.{TimeZone}
 use Rattle.cron_walk_listing.specs.Output.{complaint}
 use Rattle.cron_zones.specs.Opening.{Opens}
 use Rattle.cron_answers.specs.Answers.{Given, IsAsked, IsNotAsked, IsOpened}
-use Rattle.cron_answers.specs.Expressions.{changes_by, schedules_of}
+use Rattle.cron_answers.specs.Expressions.{changes_by, matches_of}
 use Rattle.cron_answers.specs.Fires.{rows_by}
 use Rattle.cron_answers.specs.Pairs.{no_memory}
 use Rattle.cron_answers.specs.Reports.{IsHead, tally_text}
@@ -43,12 +43,12 @@ IsYearAfter start end =
 -- fires in 365 days from the instant asked for.
 pub record IsExplained (r : Request) (e : Expression) (z : TimeZone) (asked : Asked) (was is : Option (List ℕ)) (status : Status) : Type 0 where
   pub head : List ℕ
-  pub is_head : IsHead r.form r.expression.now e head
+  pub is_head : IsHead r.form r.expression.now e r.plan_lines.now head
   pub end : ℤ
   pub is_end : IsYearAfter (start_of asked) end
   pub tally : Tally
-  pub is_tally : IsTallyBy (changes_by r.changes e) (schedules_of e) z (start_of asked) end tally
-  pub ends : Ends Done ((head ++ rows_by (changes_by r.changes e) r.form asked (schedules_of e) z) ++ tally_text r.form tally) was is status
+  pub is_tally : IsTallyBy (changes_by r.changes e) (matches_of r.plan e) z (start_of asked) end tally
+  pub ends : Ends Done ((head ++ rows_by (changes_by r.changes e) r.form asked (matches_of r.plan e) z) ++ tally_text r.form tally) was is status
 
 -- The expression, perhaps of a crontab's line, the zone and the instants of the words were read, and
 -- the expression was explained by them.

@@ -1,6 +1,10 @@
 -- What an expression is: a crontab's, this library's, or Quartz's.
 use Rattle.std.specs.Prelude.{◌≡◌, ℕ, Bool, true, false, nat_le, List, [], ◌∷◌, Option, Some, None, length, if◌then◌else◌}
 use Rattle.cron_units.specs.Sets.{Sets}
+use Rattle.cron_time.specs.Seconds.{Seconds}
+use Rattle.cron_unions.specs.Unions.{any_of}
+use Rattle.cron_plans.specs.Plans.{planned_by}
+use Rattle.cron_plans.specs.declared.plan.Plan.{Plan}
 use Rattle.cron_text.specs.Fault.{IsRefusal}
 use Rattle.cron_text.specs.FaultText.{fault_text}
 use Rattle.cron_text.specs.Meaning.{Means, MeansNothing}
@@ -24,6 +28,11 @@ schedules_of (Crontab some changes) = some
 schedules_of Reboot = []
 schedules_of (Own one) = one
 schedules_of (Quartz union) = union
+
+-- the civil seconds at which the expression fires: what a plan leaves of the matches, or all of them
+-- without a plan
+abbrev pub matches_of : Option Plan → Expression → Seconds
+matches_of plan e = planned_by plan (any_of (schedules_of e))
 
 -- the expression's own rule at clock changes
 abbrev pub own_changes : Expression → ClockChanges

@@ -2,13 +2,12 @@
 use Rattle.std.specs.Prelude.{ℕ, zero, suc, ◌-◌, ℤ, pos, ◌-ℤ◌, Bool, true, false, List, map, take, Option, Some, None, Result, ⊤}
 use Rattle.std.specs.declared.io.Error.{Error}
 use Rattle.jiff_tz.specs.declared.timezone.TimeZone.{TimeZone}
-use Rattle.cron_units.specs.Sets.{Sets}
+use Rattle.cron_time.specs.Seconds.{Seconds}
 use Rattle.cron_dues.specs.Due as dues
 use Rattle.cron_dues.specs.DueText.{due_text}
 use Rattle.cron_moments.specs.MomentText.{moment_text}
 use Rattle.cron_moments.specs.Readings as moments
 use Rattle.cron_dues.specs.Dues.{dues_after, dues_back, dues_between}
-use Rattle.cron_unions.specs.Unions.{any_of}
 use Rattle.cron_instants.specs.Fires as shown
 use Rattle.cron_fires.specs.declared.changes.ClockChanges.{ClockChanges}
 use Rattle.cron_fires.specs.declared.changes.ClockChanges.TheVariants.{AsShown, Once}
@@ -22,29 +21,29 @@ use Rattle.cron_replies.specs.declared.form.Form.{Form}
 
 -- the times before the instant t, in nanoseconds since 1970, at which a clock shows a match, the
 -- latest first
-abbrev pub moments_before : List Sets → TimeZone → ℤ → List moments.Reading
-moments_before ss z t = shown.fires_back (any_of ss) z (t -ℤ pos 1)
+abbrev pub moments_before : Seconds → TimeZone → ℤ → List moments.Reading
+moments_before s z t = shown.fires_back s z (t -ℤ pos 1)
 
 -- the matches, each once, whose instant is before t, in nanoseconds since 1970, the latest first
-abbrev pub dues_before : List Sets → TimeZone → ℤ → List dues.Due
-dues_before ss z t = dues_back (any_of ss) z (t -ℤ pos 1)
+abbrev pub dues_before : Seconds → TimeZone → ℤ → List dues.Due
+dues_before s z t = dues_back s z (t -ℤ pos 1)
 
 -- the times asked for at which a clock shows a match, in order, or for `Back` the latest first
-abbrev pub moments_of : Asked → List Sets → TimeZone → List moments.Reading
-moments_of (Next start count) ss z = take count (shown.fires_after (any_of ss) z start.nanosecond)
-moments_of (Back end count) ss z = take count (moments_before ss z end.nanosecond)
-moments_of (Between start end) ss z = shown.fires_between (any_of ss) z start.nanosecond end.nanosecond
+abbrev pub moments_of : Asked → Seconds → TimeZone → List moments.Reading
+moments_of (Next start count) s z = take count (shown.fires_after s z start.nanosecond)
+moments_of (Back end count) s z = take count (moments_before s z end.nanosecond)
+moments_of (Between start end) s z = shown.fires_between s z start.nanosecond end.nanosecond
 
 -- the matches asked for, each once, in order, or for `Back` the latest first
-abbrev pub dues_of : Asked → List Sets → TimeZone → List dues.Due
-dues_of (Next start count) ss z = take count (dues_after (any_of ss) z start.nanosecond)
-dues_of (Back end count) ss z = take count (dues_before ss z end.nanosecond)
-dues_of (Between start end) ss z = dues_between (any_of ss) z start.nanosecond end.nanosecond
+abbrev pub dues_of : Asked → Seconds → TimeZone → List dues.Due
+dues_of (Next start count) s z = take count (dues_after s z start.nanosecond)
+dues_of (Back end count) s z = take count (dues_before s z end.nanosecond)
+dues_of (Between start end) s z = dues_between s z start.nanosecond end.nanosecond
 
 -- the rows of the fires asked for, by a rule at clock changes
-abbrev pub rows_by : ClockChanges → Form → Asked → List Sets → TimeZone → List ℕ
-rows_by AsShown form asked ss z = rows form moment_text moments.instant (moments_of asked ss z)
-rows_by Once form asked ss z = rows form due_text dues.instant (dues_of asked ss z)
+abbrev pub rows_by : ClockChanges → Form → Asked → Seconds → TimeZone → List ℕ
+rows_by AsShown form asked s z = rows form moment_text moments.instant (moments_of asked s z)
+rows_by Once form asked s z = rows form due_text dues.instant (dues_of asked s z)
 
 -- ---- how the rows are gathered
 

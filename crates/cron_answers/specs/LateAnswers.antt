@@ -2,7 +2,7 @@
 use Rattle.std.specs.Prelude.{◌≡◌, ◌⊎◌, ℕ, ℤ, List, Option, Some, None}
 use Rattle.jiff_tz.specs.declared.timezone.TimeZone.{TimeZone}
 use Rattle.cron_answers.specs.Answers.{Given}
-use Rattle.cron_answers.specs.Expressions.{changes_by, schedules_of}
+use Rattle.cron_answers.specs.Expressions.{changes_by, matches_of}
 use Rattle.cron_answers.specs.Instants.{IsInstant}
 use Rattle.cron_answers.specs.Lateness.{SaysWhetherBy}
 use Rattle.cron_replies.specs.Statuses.{Reporting}
@@ -21,7 +21,7 @@ pub record SaysWhen {F : Type 0} (g : Given F) (r : Request) (old new : F) (was 
   pub begun : IsBegun g r.quartz r.expression.now r.zone.now old expression zone new
   pub last : ℤ
   pub is_last : IsInstant r.last.now zone g.now (Some last)
-  pub says : SaysWhetherBy (changes_by r.changes expression) r.form (schedules_of expression) zone last r.grace g.now was is status
+  pub says : SaysWhetherBy (changes_by r.changes expression) r.form (matches_of r.plan expression) zone last r.grace g.now was is status
 
 -- Why nothing can be said about missed fires: the expression, the zone or the last run's instant is
 -- wrong, by the first that is.

@@ -3,7 +3,7 @@ use Rattle.std.specs.Prelude.{◌≡◌, false, ℕ, ℤ, pos, ◌+ℤ◌, ◌*�
 use Rattle.std.specs.Fmt.{signed_decimal}
 use Rattle.jiff_core.specs.declared.Offset.{Offset}
 use Rattle.jiff_tz.specs.declared.timezone.TimeZone.{TimeZone}
-use Rattle.cron_units.specs.Sets.{Sets}
+use Rattle.cron_time.specs.Seconds.{Seconds}
 use Rattle.cron_dues.specs.Due as dues
 use Rattle.cron_dues.specs.DueText.{due_text}
 use Rattle.cron_instants.specs.Order.{comes_before}
@@ -12,7 +12,6 @@ use Rattle.cron_moments.specs.Parts.{ShowsAt}
 use Rattle.cron_moments.specs.Readings.{Reading}
 use Rattle.cron_moments.specs.Readings as moments
 use Rattle.cron_instants.specs.Instants.{IsItem}
-use Rattle.cron_unions.specs.Unions.{any_of}
 use Rattle.cron_dues.specs.FirstDues.{IsDue}
 use Rattle.cron_fires.specs.declared.changes.ClockChanges.{ClockChanges}
 use Rattle.cron_fires.specs.declared.changes.ClockChanges.TheVariants.{AsShown, Once}
@@ -105,11 +104,11 @@ abbrev pub SaysWhether :
 SaysWhether {A} form text offset second civil IsFire last grace now was is status =
     (missed : Option (Missed A)) × IsFirstMissed IsFire second civil last grace now missed × Says form text second offset missed was is status
 
--- The sentence on whether a fire of some schedules was missed in a zone, by a rule at clock
+-- The sentence on whether a fire of a set was missed in a zone, by a rule at clock
 -- changes, was written.
-abbrev pub SaysWhetherBy : ClockChanges → Form → List Sets → TimeZone → ℤ → ℕ → ℤ → Option (List ℕ) → Option (List ℕ) → Status → Type 0
-SaysWhetherBy AsShown form ss z = SaysWhether form moment_text (λ r. r.offset) moments.instant (λ r. r.second) (IsItem (any_of ss) z)
-SaysWhetherBy Once form ss z = SaysWhether form due_text (λ d. d.offset) dues.instant (λ d. d.second) (IsDue (any_of ss) z)
+abbrev pub SaysWhetherBy : ClockChanges → Form → Seconds → TimeZone → ℤ → ℕ → ℤ → Option (List ℕ) → Option (List ℕ) → Status → Type 0
+SaysWhetherBy AsShown form s z = SaysWhether form moment_text (λ r. r.offset) moments.instant (λ r. r.second) (IsItem s z)
+SaysWhetherBy Once form s z = SaysWhether form due_text (λ d. d.offset) dues.instant (λ d. d.second) (IsDue s z)
 
 -- ---- how the missed fire is found
 

@@ -9,7 +9,7 @@ use Rattle.cron_looks.specs.declared.times.Times.TheVariants.{Plain, Format}
 use Rattle.cron_replies.specs.Statuses.{Ends}
 use Rattle.cron_replies.specs.declared.status.Status.{Status}
 use Rattle.cron_replies.specs.declared.status.Status.TheVariants.{Done}
-use Rattle.cron_answers.specs.Expressions.{changes_by, schedules_of}
+use Rattle.cron_answers.specs.Expressions.{changes_by, matches_of}
 use Rattle.cron_answers.specs.Fires.{rows_by}
 use Rattle.cron_answers.specs.TimedLines.{AreLinesBy, IsLinesErrorBy}
 use Rattle.cron_answers.specs.declared.answer.Request.{Request}
@@ -24,8 +24,8 @@ is_plain _ = false
 
 -- the text is the rows of the requested fires where times are plain, else their lines
 abbrev pub IsListingBy : Times → Request → Expression → Asked → TimeZone → List ℕ → Type 0
-IsListingBy Plain r e asked z text = text ≡ rows_by (changes_by r.changes e) r.form asked (schedules_of e) z
-IsListingBy times r e asked z text = AreLinesBy (changes_by r.changes e) times asked (schedules_of e) z text
+IsListingBy Plain r e asked z text = text ≡ rows_by (changes_by r.changes e) r.form asked (matches_of r.plan e) z
+IsListingBy times r e asked z text = AreLinesBy (changes_by r.changes e) times asked (matches_of r.plan e) z text
 
 abbrev pub IsListing : Request → Expression → Asked → TimeZone → List ℕ → Type 0
 IsListing r = IsListingBy r.times r
@@ -59,4 +59,4 @@ IsTriedBy _ why = ⊥
 -- at one of the fires, or memory ran out
 abbrev pub IsUnlisted : Request → Expression → Asked → TimeZone → Trouble → Type 0
 IsUnlisted r e asked z t =
-    IsFormatTrouble r.times (λ why. IsTriedBy r.times why ⊎ IsLinesErrorBy (changes_by r.changes e) r.times asked (schedules_of e) z why) t
+    IsFormatTrouble r.times (λ why. IsTriedBy r.times why ⊎ IsLinesErrorBy (changes_by r.changes e) r.times asked (matches_of r.plan e) z why) t

@@ -3,13 +3,13 @@ use Rattle.std.specs.Prelude.{◌≡◌, ◌&&◌, ℕ, ℤ, Bool, true, false, 
 use Rattle.std.specs.List.{last_or, list_any}
 use Rattle.std.specs.Ordering.{int_eq}
 use Rattle.jiff_tz.specs.declared.timezone.TimeZone.{TimeZone}
-use Rattle.cron_units.specs.Sets.{Sets}
+use Rattle.cron_time.specs.Seconds.{Seconds}
 use Rattle.cron_dues.specs.Due as dues
 use Rattle.cron_moments.specs.Readings as moments
 use Rattle.cron_moments.specs.Readings.{Reading, readings}
 use Rattle.cron_fires.specs.declared.changes.ClockChanges.{ClockChanges}
 use Rattle.cron_fires.specs.declared.changes.ClockChanges.TheVariants.{AsShown, Once}
-use Rattle.cron_answers.specs.Expressions.{changes_by, schedules_of}
+use Rattle.cron_answers.specs.Expressions.{changes_by, matches_of}
 use Rattle.cron_answers.specs.Fires.{dues_of, moments_of}
 use Rattle.cron_answers.specs.declared.answer.Request.{Request}
 use Rattle.cron_answers.specs.declared.expression.Expression.{Expression}
@@ -33,14 +33,14 @@ abbrev pub has_other : {A : Type 0} → (A → ℕ) → (A → ℤ) → TimeZone
 has_other civil second z fires = list_any (λ fire. not (is_quartz_fire z (civil fire) (second fire))) fires
 
 -- whether Quartz doesn't fire at one of the fires asked for, by a rule at clock changes
-abbrev pub lists_other : ClockChanges → Asked → List Sets → TimeZone → Bool
-lists_other AsShown asked ss z = has_other (λ r. r.second) moments.instant z (moments_of asked ss z)
-lists_other Once asked ss z = has_other (λ d. d.second) dues.instant z (dues_of asked ss z)
+abbrev pub lists_other : ClockChanges → Asked → Seconds → TimeZone → Bool
+lists_other AsShown asked s z = has_other (λ r. r.second) moments.instant z (moments_of asked s z)
+lists_other Once asked s z = has_other (λ d. d.second) dues.instant z (dues_of asked s z)
 
 -- whether the notice is due: the expression is one of Quartz, and Quartz doesn't fire at one of the
 -- fires asked for
 abbrev pub is_noted : Request → Expression → Asked → TimeZone → Bool
-is_noted r e asked z = r.quartz && lists_other (changes_by r.changes e) asked (schedules_of e) z
+is_noted r e asked z = r.quartz && lists_other (changes_by r.changes e) asked (matches_of r.plan e) z
 
 abbrev pub quartz_notice : List ℕ
 quartz_notice = codes "note: Quartz fires differently here: in a fold only at the second time, in a gap not at all\n"

@@ -50,11 +50,11 @@ IsNoTab e = (m : tabs.Meaning) → IsTab e m → ⊥
 abbrev pub TellsWarnings : Form → List ℕ → Expression → List ℕ → Type 0
 TellsWarnings form text e told = ((m : tabs.Meaning) × IsTab e m × TellsOfTab form text m told) ⊎ (IsNoTab e × (told ≡ []))
 
--- the sentence of an expression, and then its warnings
-pub record IsHead (form : Form) (text : List ℕ) (e : Expression) (head : List ℕ) : Type 0 where
+-- the sentence of an expression, then its warnings, and then the lines that tell of its plan
+pub record IsHead (form : Form) (text : List ℕ) (e : Expression) (plan_lines head : List ℕ) : Type 0 where
   pub warnings : List ℕ
   pub tells : TellsWarnings form text e warnings
-  pub joined : head ≡ sentence_line form (sentence_of e) ++ warnings
+  pub joined : head ≡ (sentence_line form (sentence_of e) ++ warnings) ++ plan_lines
 
 -- the shortest and the longest wait between fires, in words, or in seconds for JSON; nothing if
 -- there is no wait

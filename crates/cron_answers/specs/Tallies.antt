@@ -7,9 +7,8 @@ use Rattle.cron_fires.specs.declared.changes.ClockChanges.{ClockChanges}
 use Rattle.cron_fires.specs.declared.changes.ClockChanges.TheVariants.{AsShown, Once}
 use Rattle.cron_moments.specs.Readings as moments
 use Rattle.cron_dues.specs.Dues.{dues_between}
-use Rattle.cron_unions.specs.Unions.{any_of}
 use Rattle.cron_instants.specs.Fires as shown
-use Rattle.cron_units.specs.Sets.{Sets}
+use Rattle.cron_time.specs.Seconds.{Seconds}
 use Rattle.cron_answers.specs.declared.tally.Tally.{Tally}
 use Rattle.cron_answers.specs.declared.tally.Waits.{Waits}
 
@@ -38,8 +37,8 @@ pub record IsTally (ss : List ℤ) (t : Tally) : Type 0 where
   pub counted : t.fires ≡ min (length ss) 18_446_744_073_709_551_615
   pub ends : AreEnds (waits_of ss) t.waits
 
--- the tally of the fires of schedules in a zone after an instant, up to and with another, by a rule
+-- the tally of the fires of a set in a zone after an instant, up to and with another, by a rule
 -- at clock changes
-abbrev pub IsTallyBy : ClockChanges → List Sets → TimeZone → ℤ → ℤ → Tally → Type 0
-IsTallyBy AsShown ss z start end t = IsTally (map moments.instant (shown.fires_between (any_of ss) z start end)) t
-IsTallyBy Once ss z start end t = IsTally (map dues.instant (dues_between (any_of ss) z start end)) t
+abbrev pub IsTallyBy : ClockChanges → Seconds → TimeZone → ℤ → ℤ → Tally → Type 0
+IsTallyBy AsShown s z start end t = IsTally (map moments.instant (shown.fires_between s z start end)) t
+IsTallyBy Once s z start end t = IsTally (map dues.instant (dues_between s z start end)) t

@@ -10,7 +10,7 @@ use Rattle.cron_looks.specs.Times.{IsTime, IsTimeError}
 use Rattle.cron_looks.specs.declared.times.Times.{Times}
 use Rattle.cron_moments.specs.MomentText.{moment_text}
 use Rattle.cron_moments.specs.Readings.{Reading}
-use Rattle.cron_units.specs.Sets.{Sets}
+use Rattle.cron_time.specs.Seconds.{Seconds}
 use Rattle.cron_answers.specs.Fires.{dues_of, moments_of}
 use Rattle.cron_answers.specs.declared.fires.Asked.{Asked}
 
@@ -31,10 +31,10 @@ IsLinesError times moment [] why = why ≡ OutOfMemory
 IsLinesError times moment (f ∷ fires) why = IsTimeError times (moment f) why ⊎ IsLinesError times moment fires why
 
 -- the lines of the fires asked for, by a rule at clock changes
-abbrev pub AreLinesBy : ClockChanges → Times → Asked → List Sets → TimeZone → List ℕ → Type 0
-AreLinesBy AsShown times asked ss z lines = AreLines times moment_text (λ moment. moment) (moments_of asked ss z) lines
-AreLinesBy Once times asked ss z lines = AreLines times due_text shown (dues_of asked ss z) lines
+abbrev pub AreLinesBy : ClockChanges → Times → Asked → Seconds → TimeZone → List ℕ → Type 0
+AreLinesBy AsShown times asked s z lines = AreLines times moment_text (λ moment. moment) (moments_of asked s z) lines
+AreLinesBy Once times asked s z lines = AreLines times due_text shown (dues_of asked s z) lines
 
-abbrev pub IsLinesErrorBy : ClockChanges → Times → Asked → List Sets → TimeZone → Error → Type 0
-IsLinesErrorBy AsShown times asked ss z why = IsLinesError times (λ moment. moment) (moments_of asked ss z) why
-IsLinesErrorBy Once times asked ss z why = IsLinesError times shown (dues_of asked ss z) why
+abbrev pub IsLinesErrorBy : ClockChanges → Times → Asked → Seconds → TimeZone → Error → Type 0
+IsLinesErrorBy AsShown times asked s z why = IsLinesError times (λ moment. moment) (moments_of asked s z) why
+IsLinesErrorBy Once times asked s z why = IsLinesError times shown (dues_of asked s z) why

@@ -15,6 +15,7 @@ use crate::subject::subject_of;
 use crate::trouble::{Trouble, tell};
 use cron_fires::ClockChanges;
 use cron_looks::Times;
+use cron_plans::plan::Plan;
 use cron_replies::form::Form;
 use cron_replies::status::Status;
 use cron_writer::watchable::Watchable;
@@ -49,6 +50,10 @@ pub struct Request<'a> {
     pub which: Which<'a>,
     /// The rule at clock changes that was chosen. `None` is the expression's own.
     pub changes: Option<ClockChanges>,
+    /// What is left out of the fires, and where they are moved.
+    pub plan: Option<Plan<'a>>,
+    /// The lines that tell of the plan, which `explain` writes after the warnings.
+    pub plan_lines: &'a str,
     /// How fires are written.
     pub form: Form,
     /// How the times of fires are written, where each is a line of text. Only `Times::Plain` goes

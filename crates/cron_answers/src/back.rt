@@ -5,8 +5,7 @@ ghost use Rattle.jiff.specs.Words.{plain_zone};
 ghost use Rattle.cron_answers.specs.Fires.{dues_before, moments_before};
 ghost use Rattle.cron_answers.specs.Inner.Backs.{IsJustBefore};
 
-use cron_fires::{AsShown, BackRun, Once, Union};
-use cron_units::fields::ScheduleFields;
+use cron_fires::{AsShown, BackRun, CivilSeconds, Once};
 use jiff::Timestamp;
 use jiff::tz::TimeZone;
 
@@ -22,23 +21,23 @@ pub(crate) fn just_before(instant: Timestamp) -> Timestamp
 }
 
 /// The times before `end` when the clock shows a match, the latest first.
-pub(crate) fn moments_before<'a>(
-    schedules: &'a [ScheduleFields],
+pub(crate) fn moments_before<'a, S: CivilSeconds>(
+    table: S,
     end: Timestamp,
     zone: &'a TimeZone<'a>,
-) -> BackRun<'a, Union<'a>, AsShown<TimeZone<'a>>>
-    ensures { result ≡ moments_before schedules.now (plain_zone zone.now) end.nanosecond }
+) -> BackRun<'a, S, AsShown<TimeZone<'a>>>
+    ensures { result ≡ moments_before (S.has table) (plain_zone zone.now) end.nanosecond }
 {
-    BackRun::by(Union { schedules }, just_before(end), zone)
+    BackRun::by(table, just_before(end), zone)
 }
 
 /// The matches, each once, whose instant comes before `end`, the latest first.
-pub(crate) fn dues_before<'a>(
-    schedules: &'a [ScheduleFields],
+pub(crate) fn dues_before<'a, S: CivilSeconds>(
+    table: S,
     end: Timestamp,
     zone: &'a TimeZone<'a>,
-) -> BackRun<'a, Union<'a>, Once<TimeZone<'a>>>
-    ensures { result ≡ dues_before schedules.now (plain_zone zone.now) end.nanosecond }
+) -> BackRun<'a, S, Once<TimeZone<'a>>>
+    ensures { result ≡ dues_before (S.has table) (plain_zone zone.now) end.nanosecond }
 {
-    BackRun::by(Union { schedules }, just_before(end), zone)
+    BackRun::by(table, just_before(end), zone)
 }

@@ -5,6 +5,7 @@ ghost use Rattle.std.specs.String.{string_bytes};
 ghost use Rattle.jiff.specs.Words.{plain_zone};
 ghost use Rattle.cron_writer.specs.Calls.{AreWrites, AreWritesFlushed};
 ghost use Rattle.cron_writer.specs.Watching.{has_failed, writer_of, IsSent};
+ghost use Rattle.cron_plans.specs.Tables.{has_table};
 ghost use Rattle.cron_answers.specs.Answers.{given};
 ghost use Rattle.cron_answers.specs.Explanations.{AnswersExplain, IsYearAfter, start_of};
 ghost use Rattle.cron_answers.specs.Fires.{rows_by};
@@ -21,9 +22,9 @@ use crate::tally::count_fires;
 use crate::trouble::tell;
 use crate::whole::whole_subject_of;
 use cron_fires::ClockChanges;
+use cron_plans::table::Table;
 use cron_replies::form::Form;
 use cron_replies::status::{Status, finish};
-use cron_units::fields::ScheduleFields;
 use cron_writer::watchable::Watchable;
 use cron_writer::watched::{Watched, send};
 use cron_zones::files::ZoneFiles;
@@ -63,29 +64,33 @@ fn year_after(start: Timestamp) -> Timestamp
 }
 
 // The texts before and after the rows of fires. The first is the sentence of the expression, with
-// its warnings. The other is the number of fires in 365 days, with the waits between them.
+// its warnings and the lines of its plan. The other is the number of fires in 365 days, with the
+// waits between them.
 fn texts_of(
     alloc: Global,
     request: &Request<'_>,
     expression: &Expression,
+    table: &Table<'_>,
     asked: &Asked,
     zone: &TimeZone<'_>,
 ) -> Result<Texts, AllocError>
     ensures { IfOk result (λ texts.
-        AreTexts request.now expression.now (plain_zone zone.now) asked.now texts) }
+        AreTexts request.now expression.now (has_table table.now)
+        (plain_zone zone.now) asked.now texts) }
 {
-    let head = head_of(alloc, request.form, request.expression, expression)?;
+    let (form, lines) = (request.form, request.plan_lines);
+    let head = head_of(alloc, form, request.expression, expression, lines)?;
     let start = start_of(asked);
     let end = year_after(start);
     let changes = expression.changes(request.changes);
-    let tally = count_fires(expression.as_slice(), changes, start, end, zone);
-    let tail = tally_text(alloc, request.form, &tally)?;
+    let tally = count_fires(table, changes, start, end, zone);
+    let tail = tally_text(alloc, form, &tally)?;
     Ok(Texts { head, tail })
 }
 
 // Writes the rows of the fires, or nothing if a call of the writer has failed before.
 fn send_more<W: Watchable>(
-    schedules: &[ScheduleFields],
+    table: &Table<'_>,
     changes: ClockChanges,
     asked: &Asked,
     zone: &TimeZone<'_>,
@@ -95,12 +100,12 @@ fn send_more<W: Watchable>(
     ensures sent { (origin : Option (List ℕ)) (before : List ℕ)
         → IsSent origin (W.contents (writer_of out.old)) (has_failed out.old) before
         → IsSent origin (W.contents (writer_of out.new)) (has_failed out.new)
-        (before ++ rows_by changes form asked.now schedules.now (plain_zone zone.now)) }
+        (before ++ rows_by changes form asked.now (has_table table.now) (plain_zone zone.now)) }
     ensures calls { AreWrites W.writes
         (writer_of out.old) (has_failed out.old) (writer_of out.new) (has_failed out.new) }
 {
     if !out.has_failed() {
-        send_fires(schedules, changes, asked, zone, form, out);
+        send_fires(table, changes, asked, zone, form, out);
     }
 }
 
@@ -108,7 +113,7 @@ fn send_more<W: Watchable>(
 // failed before.
 fn send_between<W: Watchable>(
     texts: &Texts,
-    schedules: &[ScheduleFields],
+    table: &Table<'_>,
     changes: ClockChanges,
     asked: &Asked,
     zone: &TimeZone<'_>,
@@ -118,7 +123,7 @@ fn send_between<W: Watchable>(
     requires { has_failed out.old ≡ false }
     ensures ends { Ends Done
         ((string_bytes texts.now.head
-        ++ rows_by changes form asked.now schedules.now (plain_zone zone.now))
+        ++ rows_by changes form asked.now (has_table table.now) (plain_zone zone.now))
         ++ string_bytes texts.now.tail)
         (W.contents (writer_of out.old)) (W.contents (writer_of out.new)) result }
     ensures mark { has_failed out.new ≡ is_write_failure result }
@@ -126,14 +131,14 @@ fn send_between<W: Watchable>(
         (writer_of out.old) (has_failed out.old) (writer_of out.new) (has_failed out.new) }
 {
     send(out, texts.head.as_bytes());
-    send_more(schedules, changes, asked, zone, form, out);
+    send_more(table, changes, asked, zone, form, out);
     send(out, texts.tail.as_bytes());
     finish(out, Status::Done)
 }
 
 /// Answers a request. EXPRESSION may be a line of a user's crontab, whose command is left out. It
-/// writes the sentence of the expression, its warnings if it is a crontab's, and the requested fires
-/// to `out`. Then come the number of fires in the 365 days from START on, and the shortest and the
+/// writes the sentence of the expression, its warnings if it is a crontab's, the lines of its plan,
+/// and the requested fires to `out`. Then come the number of fires in the 365 days from START on, and the shortest and the
 /// longest wait between two. What is wrong goes to `complaints`. No call of the writers may have
 /// failed before.
 pub fn explain<F: ZoneFiles, W: Watchable, C: Watchable>(
@@ -162,10 +167,11 @@ pub fn explain<F: ZoneFiles, W: Watchable, C: Watchable>(
         Ok(asked) => asked,
         Err(trouble) => return tell(alloc, &trouble, complaints),
     };
-    let Ok(texts) = texts_of(alloc, request, &subject.expression, &asked, &zone) else {
+    let expression = &subject.expression;
+    let table = expression.table(&request.plan);
+    let Ok(texts) = texts_of(alloc, request, expression, &table, &asked, &zone) else {
         return tell_no_memory(complaints);
     };
-    let changes = subject.expression.changes(request.changes);
-    let schedules = subject.expression.as_slice();
-    send_between(&texts, schedules, changes, &asked, &zone, request.form, out)
+    let changes = expression.changes(request.changes);
+    send_between(&texts, &table, changes, &asked, &zone, request.form, out)
 }

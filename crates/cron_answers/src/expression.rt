@@ -4,12 +4,15 @@
 ghost use Rattle.std.specs.Prelude.{◌≡◌, ◌≤◌, length, MatchResult};
 ghost use Rattle.cron_crontab.specs.Crontab.{Refuses};
 ghost use Rattle.cron_crontab.specs.Views.{fault_view};
-ghost use Rattle.cron_answers.specs.Expressions.{changes_by, clock_changes, IsRead, IsReadAs, IsRefused, IsRefusedAs, KeepsCrontabs, KeepsOwn, schedules_of};
+ghost use Rattle.cron_plans.specs.Tables.{has_table};
+ghost use Rattle.cron_answers.specs.Expressions.{changes_by, clock_changes, IsRead, IsReadAs, IsRefused, IsRefusedAs, KeepsCrontabs, KeepsOwn, matches_of, schedules_of};
 
 use crate::refusal::Refusal;
 use crate::words::has_words;
 use cron_crontab::{Expression as TabExpression, Fault, Schedules, read as read_tab};
 use cron_fires::ClockChanges;
+use cron_plans::plan::Plan;
+use cron_plans::table::Table;
 use cron_quartz::{Expression as Union, read as read_quartz};
 use cron_tab_warnings::follows_clock;
 use cron_text::{fault_of, no_ordinals, read_into};
@@ -44,6 +47,14 @@ impl Expression {
             Expression::Own(one) => one,
             Expression::Quartz(union) => union.as_slice(),
         }
+    }
+
+    /// The civil seconds of the expression's fires: what `plan` leaves of its matches, or all of them
+    /// if that is `None`.
+    pub fn table<'e>(&'e self, plan: &Option<Plan<'e>>) -> Table<'e>
+        ensures { has_table result ≡ matches_of plan.now self.now }
+    {
+        Table::of(self.as_slice(), plan)
     }
 
     /// The rule at clock changes: `chosen`, or the expression's own if that is `None`.

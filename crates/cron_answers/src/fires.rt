@@ -1,4 +1,4 @@
-//! The fires of an expression as rows: the next ones after an instant, the last ones before it, or
+//! The fires of a set as rows: the next ones after an instant, the last ones before it, or
 //! those between two instants.
 
 ghost use Rattle.std.specs.Prelude.{◌≡◌, [], false};
@@ -9,20 +9,19 @@ ghost use Rattle.cron_moments.specs.MomentText.{moment_text};
 ghost use Rattle.cron_moments.specs.Readings as moments;
 ghost use Rattle.cron_writer.specs.Calls.{AreWrites, AreWritesFlushed};
 ghost use Rattle.cron_writer.specs.Watching.{has_failed, kept_in, writer_of, IsGathered, IsSent};
-ghost use Rattle.cron_answers.specs.Expressions.{changes_by, schedules_of};
+ghost use Rattle.cron_plans.specs.Tables.{has_table};
 ghost use Rattle.cron_answers.specs.Fires.{dues_of, first_of, is_none_wanted, moments_of, one_less, rows_by, GathersRows, HandsOnRows, HandsOnRowsBy, HandsOnRowsFlushed};
 ghost use Rattle.cron_answers.specs.Rows.{rows};
 ghost use Rattle.cron_replies.specs.Statuses.{Ends, is_write_failure};
 ghost use Rattle.cron_replies.specs.declared.status.Status.TheVariants.{Done};
 
 use crate::back::{dues_before, moments_before};
-use crate::expression::Expression;
 use crate::left::Left;
 use crate::row::{Told, row_of};
-use cron_fires::{ClockChanges, Dues, Fires, Union};
+use cron_fires::{ClockChanges, Dues, Fires};
+use cron_plans::table::Table;
 use cron_replies::form::Form;
 use cron_replies::status::{Status, finish};
-use cron_units::fields::ScheduleFields;
 use cron_writer::gathered::Gathered;
 use cron_writer::watchable::Watchable;
 use cron_writer::watched::Watched;
@@ -113,7 +112,7 @@ pub(crate) fn send_rows<F: Told, L: Left<F>, W: Watchable>(
 
 // Writes the rows of the requested fires. Each time when the clock shows a match is a fire.
 fn send_moments<W: Watchable>(
-    schedules: &[ScheduleFields],
+    table: &Table<'_>,
     asked: &Asked,
     zone: &TimeZone<'_>,
     form: Form,
@@ -123,23 +122,22 @@ fn send_moments<W: Watchable>(
     ensures rows { IsSent
         (W.contents (writer_of out.old)) (W.contents (writer_of out.new)) (has_failed out.new)
         (rows form moment_text moments.instant
-        (moments_of asked.now schedules.now (plain_zone zone.now))) }
+        (moments_of asked.now (has_table table.now) (plain_zone zone.now))) }
     ensures calls { AreWrites W.writes
         (writer_of out.old) (has_failed out.old) (writer_of out.new) (has_failed out.new) }
     ensures gathers { HandsOnRows W.writes form moment_text moments.instant out.old out.new }
 {
-    let table = Union { schedules };
     match *asked {
         Asked::Next(start, count) => {
-            let mut run = Fires::after(&table, start, zone);
+            let mut run = Fires::after(table, start, zone);
             send_rows(&mut run, Some(count), form, out);
         }
         Asked::Back(end, count) => {
-            let mut run = moments_before(schedules, end, zone);
+            let mut run = moments_before(table, end, zone);
             send_rows(&mut run, Some(count), form, out);
         }
         Asked::Between(start, end) => {
-            let mut run = Fires::between(&table, start, end, zone);
+            let mut run = Fires::between(table, start, end, zone);
             send_rows(&mut run, None, form, out);
         }
     }
@@ -147,7 +145,7 @@ fn send_moments<W: Watchable>(
 
 // Writes the rows of the requested fires. Each match is a fire once, also where the clock changes.
 fn send_dues<W: Watchable>(
-    schedules: &[ScheduleFields],
+    table: &Table<'_>,
     asked: &Asked,
     zone: &TimeZone<'_>,
     form: Form,
@@ -157,23 +155,22 @@ fn send_dues<W: Watchable>(
     ensures rows { IsSent
         (W.contents (writer_of out.old)) (W.contents (writer_of out.new)) (has_failed out.new)
         (rows form due_text dues.instant
-        (dues_of asked.now schedules.now (plain_zone zone.now))) }
+        (dues_of asked.now (has_table table.now) (plain_zone zone.now))) }
     ensures calls { AreWrites W.writes
         (writer_of out.old) (has_failed out.old) (writer_of out.new) (has_failed out.new) }
     ensures gathers { HandsOnRows W.writes form due_text dues.instant out.old out.new }
 {
-    let table = Union { schedules };
     match *asked {
         Asked::Next(start, count) => {
-            let mut run = Dues::after(&table, start, zone);
+            let mut run = Dues::after(table, start, zone);
             send_rows(&mut run, Some(count), form, out);
         }
         Asked::Back(end, count) => {
-            let mut run = dues_before(schedules, end, zone);
+            let mut run = dues_before(table, end, zone);
             send_rows(&mut run, Some(count), form, out);
         }
         Asked::Between(start, end) => {
-            let mut run = Dues::between(&table, start, end, zone);
+            let mut run = Dues::between(table, start, end, zone);
             send_rows(&mut run, None, form, out);
         }
     }
@@ -181,7 +178,7 @@ fn send_dues<W: Watchable>(
 
 /// Writes the rows of the requested fires by the rule `changes`, until a write fails.
 pub(crate) fn send_fires<W: Watchable>(
-    schedules: &[ScheduleFields],
+    table: &Table<'_>,
     changes: ClockChanges,
     asked: &Asked,
     zone: &TimeZone<'_>,
@@ -191,24 +188,24 @@ pub(crate) fn send_fires<W: Watchable>(
     requires { has_failed out.old ≡ false }
     ensures rows { IsSent
         (W.contents (writer_of out.old)) (W.contents (writer_of out.new)) (has_failed out.new)
-        (rows_by changes form asked.now schedules.now (plain_zone zone.now)) }
+        (rows_by changes form asked.now (has_table table.now) (plain_zone zone.now)) }
     ensures calls { AreWrites W.writes
         (writer_of out.old) (has_failed out.old) (writer_of out.new) (has_failed out.new) }
     ensures gathers { HandsOnRowsBy changes W.writes form out.old out.new }
 {
     match changes {
-        ClockChanges::AsShown => send_moments(schedules, asked, zone, form, out),
-        ClockChanges::Once => send_dues(schedules, asked, zone, form, out),
+        ClockChanges::AsShown => send_moments(table, asked, zone, form, out),
+        ClockChanges::Once => send_dues(table, asked, zone, form, out),
     }
 }
 
-/// Writes a row for each requested fire, in order, and flushes. The rule is `chosen`, or the
-/// expression's own if that is `None`. Nothing is allocated. Whole rows are handed to the writer
-/// together, up to 4,096 bytes a call, and the last of them before the flush. Once a call fails,
-/// the writer is not called again: it holds what it took before. No call may have failed before.
+/// Writes a row for each requested fire by the rule `changes`, in order, and flushes. Nothing is
+/// allocated. Whole rows are handed to the writer together, up to 4,096 bytes a call, and the last
+/// of them before the flush. Once a call fails, the writer is not called again: it holds what it
+/// took before. No call may have failed before.
 pub fn list<W: Watchable>(
-    expression: &Expression,
-    chosen: Option<ClockChanges>,
+    table: &Table<'_>,
+    changes: ClockChanges,
     asked: &Asked,
     zone: &TimeZone<'_>,
     form: Form,
@@ -216,16 +213,14 @@ pub fn list<W: Watchable>(
 ) -> Status
     requires { has_failed out.old ≡ false }
     ensures lists { Ends Done
-        (rows_by (changes_by chosen expression.now) form asked.now
-        (schedules_of expression.now) (plain_zone zone.now))
+        (rows_by changes form asked.now (has_table table.now) (plain_zone zone.now))
         (W.contents (writer_of out.old)) (W.contents (writer_of out.new)) result }
     ensures mark { has_failed out.new ≡ is_write_failure result }
     ensures calls { AreWritesFlushed W.writes W.flushes
         (writer_of out.old) (has_failed out.old) (writer_of out.new) (has_failed out.new) }
-    ensures gathers { HandsOnRowsFlushed (changes_by chosen expression.now)
+    ensures gathers { HandsOnRowsFlushed changes
         W.writes W.flushes form out.old out.new }
 {
-    let changes = expression.changes(chosen);
-    send_fires(expression.as_slice(), changes, asked, zone, form, out);
+    send_fires(table, changes, asked, zone, form, out);
     finish(out, Status::Done)
 }

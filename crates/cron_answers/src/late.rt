@@ -11,6 +11,7 @@ use crate::lateness::{LastRun, say_whether};
 use crate::subject::subject_of;
 use crate::trouble::{Trouble, tell};
 use cron_fires::ClockChanges;
+use cron_plans::plan::Plan;
 use cron_replies::form::Form;
 use cron_replies::status::Status;
 use cron_writer::watchable::Watchable;
@@ -35,6 +36,8 @@ pub struct Request<'a> {
     pub grace: u32,
     /// The rule at clock changes that was chosen. `None` is the expression's own.
     pub changes: Option<ClockChanges>,
+    /// What is left out of the fires, and where they are moved.
+    pub plan: Option<Plan<'a>>,
     /// How the answer is written.
     pub form: Form,
 }
@@ -70,13 +73,7 @@ pub fn answer<F: ZoneFiles, W: Watchable, C: Watchable>(
         instant,
         grace: request.grace,
     };
-    say_whether(
-        &subject.expression,
-        request.changes,
-        &last,
-        now,
-        &zone,
-        request.form,
-        out,
-    )
+    let table = subject.expression.table(&request.plan);
+    let changes = subject.expression.changes(request.changes);
+    say_whether(&table, changes, &last, now, &zone, request.form, out)
 }

@@ -5,22 +5,20 @@ ghost use Rattle.jiff.specs.Words.{plain_zone};
 ghost use Rattle.cron_dues.specs.Due as dues;
 ghost use Rattle.cron_moments.specs.Readings as moments;
 ghost use Rattle.cron_instants.specs.Instants.{IsItem};
-ghost use Rattle.cron_unions.specs.Unions.{any_of};
 ghost use Rattle.cron_dues.specs.FirstDues.{IsDue};
 ghost use Rattle.cron_writer.specs.Calls.{AreWritesFlushed};
 ghost use Rattle.cron_writer.specs.Watching.{has_failed, writer_of};
-ghost use Rattle.cron_answers.specs.Expressions.{changes_by, schedules_of};
+ghost use Rattle.cron_plans.specs.Tables.{has_table};
 ghost use Rattle.cron_answers.specs.Lateness.{IsFirstAfter, SaysWhetherBy};
 ghost use Rattle.cron_replies.specs.Statuses.{is_write_failure};
 
-use crate::expression::Expression;
 use crate::missed::{missed_of, say};
 use cron_dues::fire::DueFire;
-use cron_fires::{ClockChanges, Union, first_due_after, first_fire_after};
+use cron_fires::{ClockChanges, first_due_after, first_fire_after};
 use cron_moments::moment::Moment;
+use cron_plans::table::Table;
 use cron_replies::form::Form;
 use cron_replies::status::Status;
-use cron_units::fields::ScheduleFields;
 use cron_writer::watchable::Watchable;
 use cron_writer::watched::Watched;
 use jiff::Timestamp;
@@ -36,32 +34,28 @@ pub struct LastRun {
 }
 
 // The first fire after `last`, by the rule that each time when the clock shows a match is a fire.
-fn first_moment(
-    schedules: &[ScheduleFields],
-    last: Timestamp,
-    zone: &TimeZone<'_>,
-) -> Option<Moment>
-    ensures { IsFirstAfter (IsItem (any_of schedules.now) (plain_zone zone.now))
+fn first_moment(table: &Table<'_>, last: Timestamp, zone: &TimeZone<'_>) -> Option<Moment>
+    ensures { IsFirstAfter (IsItem (has_table table.now) (plain_zone zone.now))
         moments.instant (λ r. r.second) last.nanosecond result }
 {
-    first_fire_after(&Union { schedules }, last, zone)
+    first_fire_after(table, last, zone)
 }
 
 // The first fire after `last`, by the rule that each match is a fire once.
-fn first_due(schedules: &[ScheduleFields], last: Timestamp, zone: &TimeZone<'_>) -> Option<DueFire>
-    ensures { IsFirstAfter (IsDue (any_of schedules.now) (plain_zone zone.now))
+fn first_due(table: &Table<'_>, last: Timestamp, zone: &TimeZone<'_>) -> Option<DueFire>
+    ensures { IsFirstAfter (IsDue (has_table table.now) (plain_zone zone.now))
         dues.instant (λ d. d.second) last.nanosecond result }
 {
-    first_due_after(&Union { schedules }, last, zone)
+    first_due_after(table, last, zone)
 }
 
 /// Writes one sentence, or an object of JSON, on whether a fire was missed: it came after the last
-/// run, and its grace is over. The rule is `chosen`, or the expression's own if that is `None`. The
-/// sentence names the first such fire, and since when it is late. Of fires that share an instant,
-/// the first by civil second counts. No call of the writer may have failed before.
+/// run, and its grace is over. The rule is `changes`. The sentence names the first such fire, and
+/// since when it is late. Of fires that share an instant, the first by civil second counts. No call
+/// of the writer may have failed before.
 pub fn say_whether<W: Watchable>(
-    expression: &Expression,
-    chosen: Option<ClockChanges>,
+    table: &Table<'_>,
+    changes: ClockChanges,
     last: &LastRun,
     now: Timestamp,
     zone: &TimeZone<'_>,
@@ -69,22 +63,20 @@ pub fn say_whether<W: Watchable>(
     out: &mut Watched<W>,
 ) -> Status
     requires { has_failed out.old ≡ false }
-    ensures says { SaysWhetherBy (changes_by chosen expression.now) form
-        (schedules_of expression.now) (plain_zone zone.now)
+    ensures says { SaysWhetherBy changes form (has_table table.now) (plain_zone zone.now)
         last.now.instant.nanosecond last.now.grace now.nanosecond
         (W.contents (writer_of out.old)) (W.contents (writer_of out.new)) result }
     ensures mark { has_failed out.new ≡ is_write_failure result }
     ensures calls { AreWritesFlushed W.writes W.flushes
         (writer_of out.old) (has_failed out.old) (writer_of out.new) (has_failed out.new) }
 {
-    let schedules = expression.as_slice();
-    match expression.changes(chosen) {
+    match changes {
         ClockChanges::AsShown => {
-            let first = first_moment(schedules, last.instant, zone);
+            let first = first_moment(table, last.instant, zone);
             say(&missed_of(first, last.grace, now), form, out)
         }
         ClockChanges::Once => {
-            let first = first_due(schedules, last.instant, zone);
+            let first = first_due(table, last.instant, zone);
             say(&missed_of(first, last.grace, now), form, out)
         }
     }

@@ -67,8 +67,8 @@ fn list_lines<'a, W: Watchable>(
 {
     try_times(alloc, &request.times)?;
     let changes = expression.changes(request.changes);
-    let schedules = expression.as_slice();
-    match lines_by(alloc, schedules, changes, asked, zone, &request.times) {
+    let table = expression.table(&request.plan);
+    match lines_by(alloc, &table, changes, asked, zone, &request.times) {
         Ok(lines) => Ok(send_bytes(lines.as_slice(), Status::Done, out)),
         Err(error) => Err(trouble_of(&request.times, &error)),
     }
@@ -94,8 +94,9 @@ pub(crate) fn list_fires<'a, W: Watchable>(
 {
     match request.times {
         Times::Plain => {
-            let (chosen, form) = (request.changes, request.form);
-            Ok(list(expression, chosen, asked, zone, form, out))
+            let table = expression.table(&request.plan);
+            let changes = expression.changes(request.changes);
+            Ok(list(&table, changes, asked, zone, request.form, out))
         }
         Times::Shown(_) | Times::Format(_) => {
             list_lines(alloc, request, expression, asked, zone, out)

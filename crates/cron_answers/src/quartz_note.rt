@@ -5,7 +5,8 @@ ghost use Rattle.jiff.specs.Words.{plain_zone};
 ghost use Rattle.cron_dues.specs.Due as dues;
 ghost use Rattle.cron_moments.specs.Readings as moments;
 ghost use Rattle.cron_writer.specs.Watching.{has_failed};
-ghost use Rattle.cron_answers.specs.Expressions.{changes_by, schedules_of};
+ghost use Rattle.cron_plans.specs.Tables.{has_table};
+ghost use Rattle.cron_answers.specs.Expressions.{changes_by, matches_of};
 ghost use Rattle.cron_answers.specs.Fires.{dues_of, first_of, moments_of};
 ghost use Rattle.cron_answers.specs.QuartzNotes.{has_other, is_noted, is_quartz_fire, lists_other, IsNoted};
 ghost use Rattle.cron_replies.specs.Statuses.{is_write_failure, Reports};
@@ -17,11 +18,11 @@ use crate::fires::{Asked, is_none_wanted, one_less};
 use crate::left::Left;
 use crate::pair::send_text;
 use crate::row::Told;
-use cron_fires::{ClockChanges, Dues, Fires, Union};
+use cron_fires::{ClockChanges, Dues, Fires};
 use cron_moments::moment::instant_of;
 use cron_moments::readings::readings_of;
+use cron_plans::table::Table;
 use cron_replies::status::Status;
-use cron_units::fields::ScheduleFields;
 use cron_writer::watchable::Watchable;
 use cron_writer::watched::Watched;
 use jiff::tz::TimeZone;
@@ -66,63 +67,59 @@ fn has_other<F: Told, L: Left<F>>(left: &mut L, most: Option<u64>, zone: &TimeZo
 }
 
 // Whether Quartz doesn't fire at one of the requested times when the clock shows a match.
-fn has_other_moment(schedules: &[ScheduleFields], asked: &Asked, zone: &TimeZone<'_>) -> bool
+fn has_other_moment(table: &Table<'_>, asked: &Asked, zone: &TimeZone<'_>) -> bool
     ensures { result ≡ has_other (λ r. r.second) moments.instant (plain_zone zone.now)
-        (moments_of asked.now schedules.now (plain_zone zone.now)) }
+        (moments_of asked.now (has_table table.now) (plain_zone zone.now)) }
 {
-    let table = Union { schedules };
     match *asked {
         Asked::Next(start, count) => {
-            let mut run = Fires::after(&table, start, zone);
+            let mut run = Fires::after(table, start, zone);
             has_other(&mut run, Some(count), zone)
         }
         Asked::Back(end, count) => {
-            let mut run = moments_before(schedules, end, zone);
+            let mut run = moments_before(table, end, zone);
             has_other(&mut run, Some(count), zone)
         }
         Asked::Between(start, end) => {
-            let mut run = Fires::between(&table, start, end, zone);
+            let mut run = Fires::between(table, start, end, zone);
             has_other(&mut run, None, zone)
         }
     }
 }
 
 // Whether Quartz doesn't fire at one of the requested matches, each once.
-fn has_other_due(schedules: &[ScheduleFields], asked: &Asked, zone: &TimeZone<'_>) -> bool
+fn has_other_due(table: &Table<'_>, asked: &Asked, zone: &TimeZone<'_>) -> bool
     ensures { result ≡ has_other (λ d. d.second) dues.instant (plain_zone zone.now)
-        (dues_of asked.now schedules.now (plain_zone zone.now)) }
+        (dues_of asked.now (has_table table.now) (plain_zone zone.now)) }
 {
-    let table = Union { schedules };
     match *asked {
         Asked::Next(start, count) => {
-            let mut run = Dues::after(&table, start, zone);
+            let mut run = Dues::after(table, start, zone);
             has_other(&mut run, Some(count), zone)
         }
         Asked::Back(end, count) => {
-            let mut run = dues_before(schedules, end, zone);
+            let mut run = dues_before(table, end, zone);
             has_other(&mut run, Some(count), zone)
         }
         Asked::Between(start, end) => {
-            let mut run = Dues::between(&table, start, end, zone);
+            let mut run = Dues::between(table, start, end, zone);
             has_other(&mut run, None, zone)
         }
     }
 }
 
-/// Whether Quartz doesn't fire at one of the requested fires. The rule is `chosen`, or the
-/// expression's own if that is `None`.
+/// Whether Quartz doesn't fire at one of the requested fires by the rule `changes`.
 pub(crate) fn lists_other(
-    expression: &Expression,
-    chosen: Option<ClockChanges>,
+    table: &Table<'_>,
+    changes: ClockChanges,
     asked: &Asked,
     zone: &TimeZone<'_>,
 ) -> bool
-    ensures { result ≡ lists_other (changes_by chosen expression.now) asked.now
-        (schedules_of expression.now) (plain_zone zone.now) }
+    ensures { result ≡ lists_other changes asked.now (has_table table.now) (plain_zone zone.now) }
 {
-    match expression.changes(chosen) {
-        ClockChanges::AsShown => has_other_moment(expression.as_slice(), asked, zone),
-        ClockChanges::Once => has_other_due(expression.as_slice(), asked, zone),
+    match changes {
+        ClockChanges::AsShown => has_other_moment(table, asked, zone),
+        ClockChanges::Once => has_other_due(table, asked, zone),
     }
 }
 
@@ -146,7 +143,12 @@ pub(crate) fn note<C: Watchable>(
     if listed != Status::Done {
         return listed;
     }
-    if request.quartz && lists_other(expression, request.changes, asked, zone) {
+    if !request.quartz {
+        return listed;
+    }
+    let table = expression.table(&request.plan);
+    let changes = expression.changes(request.changes);
+    if lists_other(&table, changes, asked, zone) {
         return send_text(NOTICE, Status::Done, complaints);
     }
     listed

@@ -95,19 +95,22 @@ fn push_warnings(
 }
 
 /// The sentence of an expression. If it is a crontab's, its warnings follow, by its text or its line.
+/// Then come the lines that tell of its plan.
 pub(crate) fn head_of(
     alloc: Global,
     form: Form,
     text: &str,
     expression: &Expression,
+    plan_lines: &str,
 ) -> Result<String, AllocError>
     ensures { IfOk result (λ head.
-        IsHead form text.now expression.now (string_bytes head)) }
+        IsHead form text.now expression.now plan_lines.now (string_bytes head)) }
 {
     let words = sentence_of(alloc, expression)?;
     let mut report = String::new(alloc);
     push_sentence(&mut report, form, words.as_str())?;
     push_warnings(&mut report, form, text, expression)?;
+    report.push_str(plan_lines)?;
     Ok(report)
 }
 

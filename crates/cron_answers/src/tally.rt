@@ -2,13 +2,14 @@
 
 ghost use Rattle.std.specs.Prelude.{◌≡◌, map, min};
 ghost use Rattle.jiff.specs.Words.{plain_zone};
+ghost use Rattle.cron_plans.specs.Tables.{has_table};
 ghost use Rattle.cron_answers.specs.Tallies.{IsTally, IsTallyBy};
 ghost use Rattle.cron_answers.specs.Inner.Tallies.{with_fire, with_wait};
 
 use crate::left::Left;
 use crate::row::Told;
-use cron_fires::{ClockChanges, Dues, Fires, Union};
-use cron_units::fields::ScheduleFields;
+use cron_fires::{ClockChanges, Dues, Fires};
+use cron_plans::table::Table;
 use jiff::Timestamp;
 use jiff::tz::TimeZone;
 
@@ -79,18 +80,17 @@ fn count_left<F: Told, L: Left<F>>(left: &mut L) -> Tally
 /// Counts the fires after `start`, up to and including `end`, by the rule `changes`, and finds the
 /// waits between them.
 pub fn count_fires(
-    schedules: &[ScheduleFields],
+    table: &Table<'_>,
     changes: ClockChanges,
     start: Timestamp,
     end: Timestamp,
     zone: &TimeZone<'_>,
 ) -> Tally
-    ensures { IsTallyBy changes schedules.now (plain_zone zone.now)
+    ensures { IsTallyBy changes (has_table table.now) (plain_zone zone.now)
         start.nanosecond end.nanosecond result }
 {
-    let table = Union { schedules };
     match changes {
-        ClockChanges::AsShown => count_left(&mut Fires::between(&table, start, end, zone)),
-        ClockChanges::Once => count_left(&mut Dues::between(&table, start, end, zone)),
+        ClockChanges::AsShown => count_left(&mut Fires::between(table, start, end, zone)),
+        ClockChanges::Once => count_left(&mut Dues::between(table, start, end, zone)),
     }
 }

@@ -5,6 +5,7 @@ ghost use Rattle.jiff.specs.Words.{plain_zone};
 ghost use Rattle.cron_dues.specs.DueText.{due_text, shown};
 ghost use Rattle.cron_looks.specs.Times.{Adds, IsTimeError};
 ghost use Rattle.cron_moments.specs.MomentText.{moment_text};
+ghost use Rattle.cron_plans.specs.Tables.{has_table};
 ghost use Rattle.cron_answers.specs.Fires.{dues_of, first_of, is_none_wanted, moments_of};
 ghost use Rattle.cron_answers.specs.TimedLines.{AreLines, AreLinesBy, IsLine, IsLinesError, IsLinesErrorBy};
 
@@ -12,9 +13,9 @@ use crate::back::{dues_before, moments_before};
 use crate::fires::{Asked, is_none_wanted, one_less};
 use crate::left::Left;
 use crate::row::Told;
-use cron_fires::{ClockChanges, Dues, Fires, Union};
+use cron_fires::{ClockChanges, Dues, Fires};
 use cron_looks::{Times, push_time};
-use cron_units::fields::ScheduleFields;
+use cron_plans::table::Table;
 use jiff::tz::TimeZone;
 use jiff_core::Error;
 use std::alloc::Global;
@@ -62,28 +63,27 @@ fn lines_of<F: Told, L: Left<F>>(
 // The lines of the requested times when the clock shows a match.
 fn moments_lines(
     alloc: Global,
-    schedules: &[ScheduleFields],
+    table: &Table<'_>,
     asked: &Asked,
     zone: &TimeZone<'_>,
     times: &Times<'_>,
 ) -> Result<Vec<u8>, Error>
     ensures ok { IfOk result (λ lines. AreLines times.now moment_text (λ moment. moment)
-        (moments_of asked.now schedules.now (plain_zone zone.now)) lines.items) }
+        (moments_of asked.now (has_table table.now) (plain_zone zone.now)) lines.items) }
     ensures err { IfErr result (IsLinesError times.now (λ moment. moment)
-        (moments_of asked.now schedules.now (plain_zone zone.now))) }
+        (moments_of asked.now (has_table table.now) (plain_zone zone.now))) }
 {
-    let table = Union { schedules };
     match *asked {
         Asked::Next(start, count) => {
-            let mut run = Fires::after(&table, start, zone);
+            let mut run = Fires::after(table, start, zone);
             lines_of(alloc, &mut run, Some(count), times)
         }
         Asked::Back(end, count) => {
-            let mut run = moments_before(schedules, end, zone);
+            let mut run = moments_before(table, end, zone);
             lines_of(alloc, &mut run, Some(count), times)
         }
         Asked::Between(start, end) => {
-            let mut run = Fires::between(&table, start, end, zone);
+            let mut run = Fires::between(table, start, end, zone);
             lines_of(alloc, &mut run, None, times)
         }
     }
@@ -92,28 +92,27 @@ fn moments_lines(
 // The lines of the requested matches, each once.
 fn dues_lines(
     alloc: Global,
-    schedules: &[ScheduleFields],
+    table: &Table<'_>,
     asked: &Asked,
     zone: &TimeZone<'_>,
     times: &Times<'_>,
 ) -> Result<Vec<u8>, Error>
     ensures ok { IfOk result (λ lines. AreLines times.now due_text shown
-        (dues_of asked.now schedules.now (plain_zone zone.now)) lines.items) }
+        (dues_of asked.now (has_table table.now) (plain_zone zone.now)) lines.items) }
     ensures err { IfErr result (IsLinesError times.now shown
-        (dues_of asked.now schedules.now (plain_zone zone.now))) }
+        (dues_of asked.now (has_table table.now) (plain_zone zone.now))) }
 {
-    let table = Union { schedules };
     match *asked {
         Asked::Next(start, count) => {
-            let mut run = Dues::after(&table, start, zone);
+            let mut run = Dues::after(table, start, zone);
             lines_of(alloc, &mut run, Some(count), times)
         }
         Asked::Back(end, count) => {
-            let mut run = dues_before(schedules, end, zone);
+            let mut run = dues_before(table, end, zone);
             lines_of(alloc, &mut run, Some(count), times)
         }
         Asked::Between(start, end) => {
-            let mut run = Dues::between(&table, start, end, zone);
+            let mut run = Dues::between(table, start, end, zone);
             lines_of(alloc, &mut run, None, times)
         }
     }
@@ -122,19 +121,19 @@ fn dues_lines(
 /// The lines of the requested fires, by the rule `changes`. All of them are kept in memory.
 pub(crate) fn lines_by(
     alloc: Global,
-    schedules: &[ScheduleFields],
+    table: &Table<'_>,
     changes: ClockChanges,
     asked: &Asked,
     zone: &TimeZone<'_>,
     times: &Times<'_>,
 ) -> Result<Vec<u8>, Error>
-    ensures ok { IfOk result (λ lines. AreLinesBy changes times.now asked.now schedules.now
+    ensures ok { IfOk result (λ lines. AreLinesBy changes times.now asked.now (has_table table.now)
         (plain_zone zone.now) lines.items) }
-    ensures err { IfErr result (IsLinesErrorBy changes times.now asked.now schedules.now
+    ensures err { IfErr result (IsLinesErrorBy changes times.now asked.now (has_table table.now)
         (plain_zone zone.now)) }
 {
     match changes {
-        ClockChanges::AsShown => moments_lines(alloc, schedules, asked, zone, times),
-        ClockChanges::Once => dues_lines(alloc, schedules, asked, zone, times),
+        ClockChanges::AsShown => moments_lines(alloc, table, asked, zone, times),
+        ClockChanges::Once => dues_lines(alloc, table, asked, zone, times),
     }
 }

@@ -8,7 +8,8 @@
 //! - `cron_bench unions`: a fire of two schedules as one;
 //! - `cron_bench tabs`: expressions, lines and entries of crontabs;
 //! - `cron_bench quartz`: a fire of a form of Quartz;
-//! - `cron_bench agenda`: entries of an agenda, beside a `BTreeSet`.
+//! - `cron_bench agenda`: entries of an agenda, beside a `BTreeSet`;
+//! - `cron_bench plans`: a fire on the days of a rule.
 //!
 //! `cron_bench print` prints the varied lines. Without a word it prints nothing. With other words,
 //! or if a text, a zone or a file is refused, it ends with an error and the status 1.
@@ -19,6 +20,7 @@ mod calls;
 mod checks;
 mod lines;
 mod parses;
+mod plans;
 mod quartz;
 mod rounds;
 mod sorted;
@@ -52,9 +54,10 @@ fn run(rt: &HostRuntime, words: &[String]) -> Result<()> {
         ("tabs", []) => tabs::run(rt),
         ("quartz", []) => quartz::run(rt),
         ("agenda", []) => agendas::run(rt),
+        ("plans", []) => plans::run(rt),
         _ => bail!(
             "usage: cron_bench \
-             [run | growth | lines | print | turn FILE | unions | tabs | quartz | agenda]"
+             [run | growth | lines | print | turn FILE | unions | tabs | quartz | agenda | plans]"
         ),
     }
 }

@@ -10,14 +10,14 @@ use Rattle.cron_counting.specs.Counts.{items_on_day}
 use Rattle.cron_moments.specs.Civil.{civil}
 use Rattle.cron_moments.specs.MomentText.{time_text}
 use Rattle.cron_calendar.specs.Html.{day_text, escaped}
-use Rattle.cron_calendar.specs.Plans.{zone_by}
+use Rattle.cron_calendar.specs.Plans.{matches_of, zone_by}
 use Rattle.cron_calendar.specs.Shapes.{word_bytes}
 use Rattle.cron_calendar.specs.declared.html.shapes.Word.TheVariants.{Weekday}
 use Rattle.cron_calendar.specs.declared.plans.Plan.{Plan}
 
 -- the civil seconds of a plan's fires on a day, in order
 abbrev pub seconds_on : TimeZone → ℕ → Plan → List ℕ
-seconds_on z day plan = map (λ r. r.second) (items_on_day plan.schedules.now (zone_by plan.once z) day)
+seconds_on z day plan = map (λ r. r.second) (items_on_day (matches_of plan) (zone_by plan.once z) day)
 
 -- the time of day of a civil second, as `03:00`, or as `03:00:30` if it has seconds
 abbrev pub short_time : ℕ → List ℕ

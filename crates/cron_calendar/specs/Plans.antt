@@ -1,11 +1,18 @@
--- How many fires plans have on each day, and in each hour, and by what a year is shaded. Days are
--- numbered from 1970-01-01.
+-- When plans fire, how many fires they have on each day, and in each hour, and by what a year is
+-- shaded. Days are numbered from 1970-01-01.
 use Rattle.std.specs.Prelude.{ℕ, ◌+◌, ◌*◌, ◌==◌, ◌&&◌, Bool, true, false, List, [], ◌∷◌, filter, fold, length, map, min, nat_lt, replicate, slice_index}
 use Rattle.std.specs.List.{list_any, range_with_len}
 use Rattle.jiff_tz.specs.declared.timezone.TimeZone.{TimeZone}
 use Rattle.jiff_tz.specs.declared.timezone.TimeZone.TheVariants.{UTC}
+use Rattle.cron_time.specs.Seconds.{Seconds}
+use Rattle.cron_unions.specs.Unions.{any_of}
+use Rattle.cron_plans.specs.Plans.{planned_by}
 use Rattle.cron_counting.specs.Counts.{counts_by_day, counts_by_hour}
 use Rattle.cron_calendar.specs.declared.plans.Plan.{Plan}
+
+-- the civil seconds that match: what is left of the plan's schedules
+abbrev pub matches_of : Plan → Seconds
+matches_of plan = planned_by plan.plan (any_of plan.schedules.now)
 
 -- The zone by which fires are counted. If each match fires once, it counts for the day of its civil
 -- second, and UTC reads each civil second once.
@@ -14,11 +21,11 @@ zone_by true z = UTC
 zone_by false z = z
 
 abbrev pub counts_of : TimeZone → ℕ → ℕ → Plan → List ℕ
-counts_of z first days plan = counts_by_day plan.schedules.now (zone_by plan.once z) first days
+counts_of z first days plan = counts_by_day (matches_of plan) (zone_by plan.once z) first days
 
 -- how many fires a plan has in each hour of `days` days from day `first` on
 abbrev pub hour_counts_of : TimeZone → ℕ → ℕ → Plan → List ℕ
-hour_counts_of z first days plan = counts_by_hour plan.schedules.now (zone_by plan.once z) (first * 24) (days * 24)
+hour_counts_of z first days plan = counts_by_hour (matches_of plan) (zone_by plan.once z) (first * 24) (days * 24)
 
 -- the sums of two lists of numbers, place by place, each at most 4,294,967,295
 abbrev pub sums_with : List ℕ → List ℕ → List ℕ

@@ -1,24 +1,145 @@
 //! What is planned, and how many fires it has on each day. Days are numbered from 1970-01-01.
-ghost use Rattle.std.specs.Prelude.{◌≡◌, ◌+◌, ◌*◌, ◌≤◌, ℕ, IfOk, length, map, replicate, slice_index};
+ghost use Rattle.std.specs.Prelude.{◌≡◌, ◌+◌, ◌*◌, ◌≤◌, ℕ, List, IfOk, length, map, replicate, slice_index};
 ghost use Rattle.std.specs.List.{flat_map, range_with_len};
 ghost use Rattle.jiff.specs.Words.{plain_zone};
+ghost use Rattle.cron_time.specs.Seconds.{Seconds};
+ghost use Rattle.cron_unions.specs.Unions.{any_of};
+ghost use Rattle.jiff_tz.specs.declared.timezone.TimeZone.{TimeZone as Zone};
 ghost use Rattle.cron_moments.specs.Civil.{days_in_range};
-ghost use Rattle.cron_calendar.specs.Plans.{counts_of, has_free_day, hour_counts_of, shade_at, shades_day, shades_of, sums_with, totals};
+ghost use Rattle.cron_calendar.specs.Plans.{counts_of, has_free_day, hour_counts_of, matches_of, shade_at, shades_day, shades_of, sums_with, totals};
 
 use cron_counting::counts::{fires_by_day, fires_by_hour};
+use cron_counting::walk::{items_by_day, items_by_hour};
+use cron_plans::plan::Plan as Rules;
+use cron_plans::table::Table;
+use cron_seconds::civil_seconds::CivilSeconds;
 use cron_units::fields::ScheduleFields;
 use jiff::tz::TimeZone;
 use std::alloc::{AllocError, Global};
 
-/// What is planned: a union of schedules, and its rule at clock changes.
+/// What is planned: a union of schedules, what is left out of it, and its rule at clock changes.
 #[derive(Clone, Copy)]
 pub struct Plan<'a> {
     /// The plan's name on pages.
     pub name: &'a [u8],
     pub schedules: &'a [ScheduleFields],
+    /// What is left out of the fires, and where they are moved.
+    pub plan: Option<Rules<'a>>,
     /// Whether each match fires once, even where the clock skips or repeats it. If not, it fires
     /// each time that the clock shows it.
     pub once: bool,
+}
+
+// Parts of days whose items are counted.
+trait Parts {
+    // how many items of a set each part of some days has
+    ghost counts: { Seconds → Zone → ℕ → ℕ → List ℕ };
+
+    // The number of items of the union of `schedules` in each part of `days` days from day `first`
+    // on.
+    fn of_union(
+        alloc: Global,
+        schedules: &[ScheduleFields],
+        first: u32,
+        days: u32,
+        zone: &TimeZone<'_>,
+    ) -> Result<Vec<u32>, AllocError>
+        requires { first + days ≤ days_in_range }
+        ensures { IfOk result (λ found. found.items
+            ≡ counts (any_of schedules.now) (plain_zone zone.now) first days) };
+
+    // The same of any set, by a walk from each item to the next.
+    fn of_set<S: CivilSeconds>(
+        alloc: Global,
+        set: &S,
+        first: u32,
+        days: u32,
+        zone: &TimeZone<'_>,
+    ) -> Result<Vec<u32>, AllocError>
+        requires { first + days ≤ days_in_range }
+        ensures { IfOk result (λ found. found.items
+            ≡ counts (S.has set.now) (plain_zone zone.now) first days) };
+}
+
+// Whole days.
+struct WholeDays;
+
+// The 24 hours of each day.
+struct Hours;
+
+impl Parts for WholeDays {
+    ghost use Rattle.cron_counting.specs.Counts.{counts_by_day};
+
+    ghost counts = { counts_by_day };
+
+    fn of_union(
+        alloc: Global,
+        schedules: &[ScheduleFields],
+        first: u32,
+        days: u32,
+        zone: &TimeZone<'_>,
+    ) -> Result<Vec<u32>, AllocError> {
+        fires_by_day(alloc, schedules, first, days, zone)
+    }
+
+    fn of_set<S: CivilSeconds>(
+        alloc: Global,
+        set: &S,
+        first: u32,
+        days: u32,
+        zone: &TimeZone<'_>,
+    ) -> Result<Vec<u32>, AllocError> {
+        items_by_day(alloc, set, first, days, zone)
+    }
+}
+
+impl Parts for Hours {
+    ghost use Rattle.std.specs.Prelude.{◌*◌};
+    ghost use Rattle.cron_counting.specs.Counts.{counts_by_hour};
+
+    ghost counts = { λ s z first days. counts_by_hour s z (first * 24) (days * 24) };
+
+    fn of_union(
+        alloc: Global,
+        schedules: &[ScheduleFields],
+        first: u32,
+        days: u32,
+        zone: &TimeZone<'_>,
+    ) -> Result<Vec<u32>, AllocError> {
+        fires_by_hour(alloc, schedules, first, days, zone)
+    }
+
+    fn of_set<S: CivilSeconds>(
+        alloc: Global,
+        set: &S,
+        first: u32,
+        days: u32,
+        zone: &TimeZone<'_>,
+    ) -> Result<Vec<u32>, AllocError> {
+        items_by_hour(alloc, set, first, days, zone)
+    }
+}
+
+// The number of items of `plan` in each part of `days` days from day `first` on. Only what `Rules`
+// leave is counted one by one.
+fn count_in<P: Parts>(
+    alloc: Global,
+    plan: &Plan<'_>,
+    first: u32,
+    days: u32,
+    zone: &TimeZone<'_>,
+) -> Result<Vec<u32>, AllocError>
+    requires { first + days ≤ days_in_range }
+    ensures { IfOk result (λ found. found.items
+        ≡ P.counts (matches_of plan.now) (plain_zone zone.now) first days) }
+{
+    match plan.plan {
+        None => P::of_union(alloc, plan.schedules, first, days, zone),
+        Some(_) => {
+            let table = Table::of(plan.schedules, &plan.plan);
+            P::of_set(alloc, &table, first, days, zone)
+        }
+    }
 }
 
 /// The number of fires of `plan` on each of `days` days from day `first` on, counted from
@@ -35,9 +156,9 @@ pub fn counts_of(
         ≡ counts_of (plain_zone zone.now) first days plan.now) }
 {
     if plan.once {
-        return fires_by_day(alloc, plan.schedules, first, days, &TimeZone::UTC);
+        return count_in::<WholeDays>(alloc, plan, first, days, &TimeZone::UTC);
     }
-    fires_by_day(alloc, plan.schedules, first, days, zone)
+    count_in::<WholeDays>(alloc, plan, first, days, zone)
 }
 
 // The number of fires of `plan` in each hour of `days` days from day `first` on, 24 hours a day. A
@@ -54,9 +175,9 @@ fn hours_of(
         ≡ hour_counts_of (plain_zone zone.now) first days plan.now) }
 {
     if plan.once {
-        return fires_by_hour(alloc, plan.schedules, first, days, &TimeZone::UTC);
+        return count_in::<Hours>(alloc, plan, first, days, &TimeZone::UTC);
     }
-    fires_by_hour(alloc, plan.schedules, first, days, zone)
+    count_in::<Hours>(alloc, plan, first, days, zone)
 }
 
 // The number at `place`, or 0 if there is none.

@@ -4,19 +4,17 @@ ghost use Rattle.jiff.specs.Words.{plain_zone};
 ghost use Rattle.cron_counting.specs.Counts.{items_on_day};
 ghost use Rattle.cron_moments.specs.Civil.{days_in_range, seconds_in_range};
 ghost use Rattle.cron_moments.specs.Readings.{readings};
-ghost use Rattle.cron_unions.specs.Unions.{any_of};
 ghost use Rattle.cron_calendar.specs.DayLists.{seconds_on};
 
 use crate::changes::times_of;
 use crate::plans::Plan;
 use cron_clocks::stretch::Stretch;
 use cron_moments::civil::SECONDS_PER_DAY;
+use cron_plans::table::Table;
 use cron_seconds::civil_seconds::CivilSeconds;
-use cron_unions::Union;
-use cron_units::fields::ScheduleFields;
 use cron_units::way::Way;
 use jiff::tz::TimeZone;
-use std::alloc::{AllocError, Global};
+use std::alloc::{AllocError, Allocator};
 
 // How often a clock shows a civil second, numbered from 1970-01-01 00:00:00.
 fn readings_of(zone: &TimeZone<'_>, second: u32) -> u32
@@ -27,7 +25,11 @@ fn readings_of(zone: &TimeZone<'_>, second: u32) -> u32
 }
 
 // Appends a civil second as many times as `count` says.
-fn push_times(times: &mut Vec<u32>, second: u32, count: u32) -> Result<(), AllocError>
+fn push_times<A: Allocator>(
+    times: &mut Vec<u32, A>,
+    second: u32,
+    count: u32,
+) -> Result<(), AllocError>
     ensures { OnOk result (times.new.items ≡ times.old.items ++ replicate count second) }
 {
     for _ in 0..count {
@@ -36,36 +38,36 @@ fn push_times(times: &mut Vec<u32>, second: u32, count: u32) -> Result<(), Alloc
     Ok(())
 }
 
-// The first civil second from `from` on and before `end` that some schedules match.
-fn next_before(schedules: &[ScheduleFields], from: u32, end: u32) -> Option<u32>
+// The first civil second of a set from `from` on and before `end`.
+fn next_before<S: CivilSeconds>(set: &S, from: u32, end: u32) -> Option<u32>
     requires { end ≤ seconds_in_range }
     ensures { MatchOption result
-        ((c : ℕ) → from ≤ c → c < end → c < seconds_in_range → any_of schedules.now c ≡ false)
-        (λ n. (from ≤ n) × (n < end) × (any_of schedules.now n ≡ true)
-        × ((c : ℕ) → from ≤ c → c < n → any_of schedules.now c ≡ false)) }
+        ((c : ℕ) → from ≤ c → c < end → c < seconds_in_range → S.has set.now c ≡ false)
+        (λ n. (from ≤ n) × (n < end) × (S.has set.now n ≡ true)
+        × ((c : ℕ) → from ≤ c → c < n → S.has set.now c ≡ false)) }
 {
-    let second = Union { schedules }.nearest(Way::Ahead, i64::from(from))?;
+    let second = set.nearest(Way::Ahead, i64::from(from))?;
     if second < end { Some(second) } else { None }
 }
 
-// The civil seconds of the first `most` fires of some schedules on a day, numbered from 1970-01-01.
-// A civil second that the clock shows twice is there twice.
-fn first_on(
-    alloc: Global,
-    schedules: &[ScheduleFields],
+// The civil seconds of the first `most` items of a set on a day, numbered from 1970-01-01. A civil
+// second that the clock shows twice is there twice.
+fn first_on<S: CivilSeconds, A: Allocator>(
+    alloc: A,
+    set: &S,
     day: u32,
     most: usize,
     zone: &TimeZone<'_>,
-) -> Result<Vec<u32>, AllocError>
+) -> Result<Vec<u32, A>, AllocError>
     requires { day < days_in_range }
     ensures { IfOk result (λ times. times.items ≡ take most
-        (map (λ r. r.second) (items_on_day schedules.now (plain_zone zone.now) day))) }
+        (map (λ r. r.second) (items_on_day (S.has set.now) (plain_zone zone.now) day))) }
 {
     let mut times = Vec::new(alloc);
     let mut from = day * SECONDS_PER_DAY;
     let end = from + SECONDS_PER_DAY;
     while times.len() < most {
-        let Some(second) = next_before(schedules, from, end) else {
+        let Some(second) = next_before(set, from, end) else {
             break;
         };
         push_times(&mut times, second, readings_of(zone, second))?;
@@ -77,19 +79,20 @@ fn first_on(
 
 /// The civil seconds of the first `most` fires of `plan` on a day, numbered from 1970-01-01, in
 /// order.
-pub(crate) fn first_times(
-    alloc: Global,
+pub(crate) fn first_times<A: Allocator>(
+    alloc: A,
     plan: &Plan<'_>,
     day: u32,
     most: usize,
     zone: &TimeZone<'_>,
-) -> Result<Vec<u32>, AllocError>
+) -> Result<Vec<u32, A>, AllocError>
     requires { day < days_in_range }
     ensures { IfOk result (λ times. times.items
         ≡ take most (seconds_on (plain_zone zone.now) day plan.now)) }
 {
+    let table = Table::of(plan.schedules, &plan.plan);
     if plan.once {
-        return first_on(alloc, plan.schedules, day, most, &TimeZone::UTC);
+        return first_on(alloc, &table, day, most, &TimeZone::UTC);
     }
-    first_on(alloc, plan.schedules, day, most, zone)
+    first_on(alloc, &table, day, most, zone)
 }

@@ -3,15 +3,13 @@ use Rattle.std.proofs.Common.{◌≡◌, ℕ, zero, suc, ◌+◌, ◌<◌, ◌�
 use Rattle.std.specs.Prelude.{filter, slice_get}
 use Rattle.std.proofs.lemmas.Bool.{cases_lt, le-leb, le-ltb, lt-leb}
 use Rattle.jiff_tz.specs.declared.timezone.TimeZone.{TimeZone}
-use Rattle.cron_units.specs.Sets.{Sets}
 use Rattle.cron_moments.specs.Civil.{seconds_in_range}
 use Rattle.cron_moments.specs.Readings.{Reading, readings}
-use Rattle.cron_time.specs.Seconds.{items_below, numbers_below, timeline}
+use Rattle.cron_time.specs.Seconds.{Seconds, items_below, numbers_below, timeline}
 use Rattle.cron_time.proofs.JoinedLemmas.{flat_map-filter, joined, joined-suc, joined-zero}
 use Rattle.cron_time.proofs.ListLemmas.{filter-all, filter-none}
 use Rattle.cron_time.proofs.PlaceLemmas.{nothing_in_nil}
 use Rattle.cron_time.proofs.TimelineLemmas.{readings-second}
-use Rattle.cron_unions.specs.Unions.{any_of}
 use Rattle.cron_counting.specs.Counts.{is_in, items_in}
 use Rattle.cron_counting.specs.Inner.Totals.{only_if, total}
 use Rattle.cron_counting.proofs.TotalLemmas.{total-alike, total-none, total-suc, total-window}
@@ -37,13 +35,13 @@ filter-joined p g (suc n) =
 
 -- ---- the items of one civil second
 
-module _ (ss : List Sets) (z : TimeZone) where
+module _ (s : Seconds) (z : TimeZone) where
   abbrev pub items_at : ℕ → List Reading
-  items_at c = cond (any_of ss c) (readings z c) []
+  items_at c = cond (s c) (readings z c) []
 
-  timeline-joined : timeline (any_of ss) z ≡ joined items_at seconds_in_range
+  timeline-joined : timeline s z ≡ joined items_at seconds_in_range
   unfolding timeline items_below
-  timeline-joined = flat_map-filter (readings z) (any_of ss) (numbers_below seconds_in_range)
+  timeline-joined = flat_map-filter (readings z) s (numbers_below seconds_in_range)
 
   own_if : (b : Bool) (c i : ℕ) (r : Reading) → slice_get (cond b (readings z c) []) i ≡ Some r → r.second ≡ c
   own_if true c i r e = readings-second z c i r e
@@ -52,10 +50,10 @@ module _ (ss : List Sets) (z : TimeZone) where
   in_at : (first end c : ℕ) (b : Bool) → (nat_le first c && nat_lt c end) ≡ b → length (filter (is_in first end) (items_at c)) ≡ only_if b (length (items_at c))
   in_at first end c true e =
       ap length (filter-all (is_in first end) (items_at c)
-      (λ r at. ap (λ s. nat_le first s && nat_lt s end) (own_if (any_of ss c) c at.0 r at.1) ∙ e))
+      (λ r at. ap (λ n. nat_le first n && nat_lt n end) (own_if (s c) c at.0 r at.1) ∙ e))
   in_at first end c false e =
       ap length (filter-none (is_in first end) (items_at c)
-      (λ r at. ap (λ s. nat_le first s && nat_lt s end) (own_if (any_of ss c) c at.0 r at.1) ∙ e))
+      (λ r at. ap (λ n. nat_le first n && nat_lt n end) (own_if (s c) c at.0 r at.1) ∙ e))
 
   outside : (first end a b c : ℕ) → a ≤ first → end ≤ b → (c < a) ⊎ (b ≤ c) → (nat_le first c && nat_lt c end) ≡ false
   outside first end a b c low high (inl before) = ap (λ v. v && nat_lt c end) (lt-leb first c (omega arith))
@@ -66,7 +64,7 @@ module _ (ss : List Sets) (z : TimeZone) where
 
   -- those of a stretch are in a longer one
   pub items_in-total : (first end a size : ℕ) → a ≤ first → end ≤ a + size → a + size ≤ seconds_in_range
-      → length (items_in ss z first end) ≡ total (λ t. only_if (nat_le first (a + t) && nat_lt (a + t) end) (length (items_at (a + t)))) size
+      → length (items_in s z first end) ≡ total (λ t. only_if (nat_le first (a + t) && nat_lt (a + t) end) (length (items_at (a + t)))) size
   items_in-total first end a size low high room =
       ap (λ l. length (filter (is_in first end) l)) timeline-joined
       ∙ (filter-joined (is_in first end) items_at seconds_in_range

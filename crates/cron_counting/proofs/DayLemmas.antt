@@ -31,7 +31,7 @@ pub readings-few : (z : TimeZone) (c : ℕ) → length (readings z c) ≤ 2
 unfolding readings
 readings-few z c = few_by c (ambiguous_at z (civil c))
 
-if_few : (b : Bool) (n : ℕ) → n ≤ 2 → only_if b n ≤ 2
+pub if_few : (b : Bool) (n : ℕ) → n ≤ 2 → only_if b n ≤ 2
 if_few true n h = h
 if_few false n h = omega arith
 

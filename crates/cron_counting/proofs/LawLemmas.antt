@@ -6,7 +6,6 @@ use Rattle.std.proofs.lemmas.Bool.{cases_lt, le-leb, le-ltb, lt-leb, lt-ltb}
 use Rattle.std.proofs.lemmas.List.Sums.{sum_by-cons}
 use Rattle.cron_moments.specs.Readings.{Reading}
 use Rattle.cron_time.specs.Seconds.{timeline}
-use Rattle.cron_unions.specs.Unions.{any_of}
 use Rattle.cron_counting.specs.Counts.{is_in}
 use Rattle.cron_counting.specs.CountLaws.{DaysAddUp, HoursAddUp}
 
@@ -32,7 +31,7 @@ parted a b c r low high = elim (cases_lt r.second a) [
   ]
 ]
 
-filter-parted : (a b c : ℕ) (l : List Reading) → a ≤ b → b ≤ c → length (filter (is_in a c) l) ≡ length (filter (is_in a b) l) + length (filter (is_in b c) l)
+pub filter-parted : (a b c : ℕ) (l : List Reading) → a ≤ b → b ≤ c → length (filter (is_in a c) l) ≡ length (filter (is_in a b) l) + length (filter (is_in b c) l)
 filter-parted a b c [] low high = refl
 filter-parted a b c (r ∷ l) low high =
     let rest = filter-parted a b c l low high in
@@ -48,7 +47,7 @@ outside a r = elim (cases_lt r.second a) [
   | inr from ↦ rw (le-leb a r.second from, le-ltb r.second a from) refl
 ]
 
-filter-none_in : (a : ℕ) (l : List Reading) → length (filter (is_in a a) l) ≡ 0
+pub filter-none_in : (a : ℕ) (l : List Reading) → length (filter (is_in a a) l) ≡ 0
 filter-none_in a [] = refl
 filter-none_in a (r ∷ l) = rw (outside a r) (filter-none_in a l)
 
@@ -78,7 +77,7 @@ parts_add_up size l (suc parts) first end e =
         omega arith
 
 pub days_add_up : DaysAddUp
-days_add_up ss z first days = parts_add_up 86_400 (timeline (any_of ss) z) days first ((first + days) * 86_400) refl
+days_add_up s z first days = parts_add_up 86_400 (timeline s z) days first ((first + days) * 86_400) refl
 
 pub hours_add_up : HoursAddUp
-hours_add_up ss z first hours = parts_add_up 3600 (timeline (any_of ss) z) hours first ((first + hours) * 3600) refl
+hours_add_up s z first hours = parts_add_up 3600 (timeline s z) hours first ((first + hours) * 3600) refl

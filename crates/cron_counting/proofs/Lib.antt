@@ -9,3 +9,4 @@ pub mod LawLemmas
 pub mod ProductLemmas
 pub mod SteadyLemmas
 pub mod SpanLemmas
+pub mod WalkLemmas

@@ -6,6 +6,7 @@ use Rattle.std.proofs.lemmas.List.FromFn.{map-range_with_len_more}
 use Rattle.jiff_tz.specs.declared.timezone.TimeZone.{TimeZone}
 use Rattle.cron_units.specs.Sets.{Sets}
 use Rattle.cron_moments.specs.Civil.{days_in_range}
+use Rattle.cron_unions.specs.Unions.{any_of}
 use Rattle.cron_counting.specs.declared.span.Span.{Span}
 use Rattle.cron_counting.specs.declared.times.Times.{Times}
 use Rattle.cron_counting.specs.Counts.{counts_by_day, counts_by_hour, items_in_hour, items_on_day}
@@ -53,20 +54,20 @@ hour-more f hour base old new count before counted is =
 
 module _ (ss : List Sets) (z : TimeZone) where
   pub day-more : (first day : ℕ) (xs ys : List Times) (old new : List ℕ) (count : ℕ) → first ≤ day → day < days_in_range → ys ≡ xs → IsGathered ss day xs
-      → old ≡ counts_by_day ss z first (day - first) → count ≡ total (readings_in ys z day whole_day) 86_400 → new ≡ old ++ count ∷ []
-      → new ≡ counts_by_day ss z first (day + 1 - first)
+      → old ≡ counts_by_day (any_of ss) z first (day - first) → count ≡ total (readings_in ys z day whole_day) 86_400 → new ≡ old ++ count ∷ []
+      → new ≡ counts_by_day (any_of ss) z first (day + 1 - first)
   day-more first day xs ys old new count low high e own before counted is =
       let n : day + 1 - first ≡ day - first + 1 = omega arith in
       let at : first + (day - first) ≡ day = omega arith in
-      let here : count ≡ length (items_on_day ss z day) =
+      let here : count ≡ length (items_on_day (any_of ss) z day) =
       counted ∙ part-count ss ys z day whole_day (day * 86_400) (day * 86_400 + 86_400) high (omega arith) (lent ss day xs ys e own) (omega arith) refl in
-      let more = map-range_with_len_more (λ d. length (items_on_day ss z d)) first (day - first) day at in
-      rw n (is ∙ (ap (λ l. l ++ count ∷ []) before ∙ (ap (λ k. counts_by_day ss z first (day - first) ++ k ∷ []) here ∙ sym more)))
+      let more = map-range_with_len_more (λ d. length (items_on_day (any_of ss) z d)) first (day - first) day at in
+      rw n (is ∙ (ap (λ l. l ++ count ∷ []) before ∙ (ap (λ k. counts_by_day (any_of ss) z first (day - first) ++ k ∷ []) here ∙ sym more)))
 
   hours_of : (day : ℕ) (xs : List Times) → day < days_in_range → IsGathered ss day xs
-      → map (λ hour. total (readings_in xs z day (hour_span hour)) 86_400) (range_with_len 0 24) ≡ counts_by_hour ss z (day * 24) 24
+      → map (λ hour. total (readings_in xs z day (hour_span hour)) 86_400) (range_with_len 0 24) ≡ counts_by_hour (any_of ss) z (day * 24) 24
   hours_of day xs high own =
-      map_alike (λ hour. total (readings_in xs z day (hour_span hour)) 86_400) (λ hour. length (items_in_hour ss z hour)) 0 (day * 24) 24
+      map_alike (λ hour. total (readings_in xs z day (hour_span hour)) 86_400) (λ hour. length (items_in_hour (any_of ss) z hour)) 0 (day * 24) 24
       (λ k less. ap (λ h. total (readings_in xs z day (hour_span h)) 86_400) (same k)
       ∙ part-count ss xs z day (hour_span k) ((day * 24 + k) * 3600) ((day * 24 + k) * 3600 + 3600) high (omega arith) own (omega arith) (omega arith))
     where
@@ -74,10 +75,10 @@ module _ (ss : List Sets) (z : TimeZone) where
       same k = omega arith
 
   pub hours-more : (first day : ℕ) (xs ys : List Times) (old new : List ℕ) → first ≤ day → day < days_in_range → ys ≡ xs → IsGathered ss day xs
-      → old ≡ counts_by_hour ss z (first * 24) ((day - first) * 24)
+      → old ≡ counts_by_hour (any_of ss) z (first * 24) ((day - first) * 24)
       → new ≡ old ++ map (λ hour. total (readings_in ys z day (hour_span hour)) 86_400) (range_with_len 0 24)
-      → new ≡ counts_by_hour ss z (first * 24) ((day + 1 - first) * 24)
+      → new ≡ counts_by_hour (any_of ss) z (first * 24) ((day + 1 - first) * 24)
   hours-more first day xs ys old new low high e own before is =
-      let joined = map_joined (λ hour. length (items_in_hour ss z hour)) (first * 24) ((day - first) * 24) 24 ((day + 1 - first) * 24) (day * 24) (omega arith) (omega arith) in
+      let joined = map_joined (λ hour. length (items_in_hour (any_of ss) z hour)) (first * 24) ((day - first) * 24) 24 ((day + 1 - first) * 24) (day * 24) (omega arith) (omega arith) in
       is ∙ (ap (λ l. l ++ map (λ hour. total (readings_in ys z day (hour_span hour)) 86_400) (range_with_len 0 24)) before
-      ∙ (ap (λ l. counts_by_hour ss z (first * 24) ((day - first) * 24) ++ l) (hours_of day ys high (lent ss day xs ys e own)) ∙ sym joined))
+      ∙ (ap (λ l. counts_by_hour (any_of ss) z (first * 24) ((day - first) * 24) ++ l) (hours_of day ys high (lent ss day xs ys e own)) ∙ sym joined))

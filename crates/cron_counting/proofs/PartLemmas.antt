@@ -12,7 +12,7 @@ use Rattle.cron_moments.specs.Civil.{civil, days_in_range, time_numbered}
 use Rattle.cron_moments.specs.CivilDates.{date_numbered}
 use Rattle.cron_moments.specs.Readings.{Reading, readings}
 use Rattle.cron_time.specs.Matches.{matches, matches_date}
-use Rattle.cron_unions.specs.Unions.{matches_any}
+use Rattle.cron_unions.specs.Unions.{any_of, matches_any}
 use Rattle.cron_counting.specs.declared.span.Span.{Span}
 use Rattle.cron_counting.specs.declared.times.Times.{Times}
 use Rattle.cron_counting.specs.Counts.{items_in}
@@ -78,15 +78,15 @@ at_once false m l = refl
 -- the readings of the times in a span are the items there
 pub part-count : (ss : List Sets) (xs : List Times) (z : TimeZone) (day : ℕ) (span : Span) (first end : ℕ) → day < days_in_range → span.end ≤ 86_400
     → IsGathered ss day xs → first ≡ day * 86_400 + span.first → end ≡ day * 86_400 + span.end
-    → total (readings_in xs z day span) 86_400 ≡ length (items_in ss z first end)
+    → total (readings_in xs z day span) 86_400 ≡ length (items_in (any_of ss) z first end)
 part-count ss xs z day span first end range high own from to =
     rw (from, to)
     (total-alike (readings_in xs z day span) inside 86_400 alike
-    ∙ sym (items_in-total ss z (day * 86_400 + span.first) (day * 86_400 + span.end) (day * 86_400) 86_400 (omega arith) (omega arith) (omega arith)))
+    ∙ sym (items_in-total (any_of ss) z (day * 86_400 + span.first) (day * 86_400 + span.end) (day * 86_400) 86_400 (omega arith) (omega arith) (omega arith)))
   where
     inside : ℕ → ℕ
     inside t = only_if (nat_le (day * 86_400 + span.first) (day * 86_400 + t) && nat_lt (day * 86_400 + t) (day * 86_400 + span.end))
-        (length (items_at ss z (day * 86_400 + t)))
+        (length (items_at (any_of ss) z (day * 86_400 + t)))
 
     alike : (t : ℕ) → t < 86_400 → readings_in xs z day span t ≡ inside t
     alike t less =
@@ -94,7 +94,7 @@ part-count ss xs z day span first end range high own from to =
         let l = readings z (day * 86_400 + t) in
         ap (λ m. only_if (w && m) (length l)) (own t less)
         ∙ (at_once w (matches_any ss (civil (day * 86_400 + t))) l
-        ∙ ap (λ (v : Bool). only_if v (length (items_at ss z (day * 86_400 + t))))
+        ∙ ap (λ (v : Bool). only_if v (length (items_at (any_of ss) z (day * 86_400 + t))))
         (ap (λ b. b && nat_lt t span.end) (sym (le_moved (day * 86_400) span.first t))
         ∙ ap (λ b. nat_le (day * 86_400 + span.first) (day * 86_400 + t) && b) (sym (lt_moved (day * 86_400) t span.end))))
 

@@ -5,6 +5,7 @@ ghost use Rattle.jiff.specs.Words.{plain_zone};
 ghost use Rattle.cron_bits.specs.Words.{has_bit};
 ghost use Rattle.cron_clocks.specs.Steady.{IsKnown};
 ghost use Rattle.cron_moments.specs.Civil.{days_in_range};
+ghost use Rattle.cron_unions.specs.Unions.{any_of};
 ghost use Rattle.cron_counting.specs.Counts.{counts_by_day, counts_by_hour};
 ghost use Rattle.cron_counting.specs.Inner.Times.{hour_span, readings_in, IsGathered};
 ghost use Rattle.cron_counting.specs.Inner.Totals.{only_if, total};
@@ -49,7 +50,7 @@ pub fn fires_by_day(
 ) -> Result<Vec<u32>, AllocError>
     requires { first + days ≤ days_in_range }
     ensures { IfOk result (λ counts. counts.items
-        ≡ counts_by_day schedules.now (plain_zone zone.now) first days) }
+        ≡ counts_by_day (any_of schedules.now) (plain_zone zone.now) first days) }
 {
     let mut counts = Vec::new(alloc);
     let mut times = Vec::new(alloc);
@@ -141,7 +142,7 @@ pub fn fires_by_hour(
 ) -> Result<Vec<u32>, AllocError>
     requires { first + days ≤ days_in_range }
     ensures { IfOk result (λ counts. counts.items
-        ≡ counts_by_hour schedules.now (plain_zone zone.now) (first * 24) (days * 24)) }
+        ≡ counts_by_hour (any_of schedules.now) (plain_zone zone.now) (first * 24) (days * 24)) }
 {
     let mut counts = Vec::new(alloc);
     let mut times = Vec::new(alloc);

@@ -57,8 +57,8 @@ pub(crate) fn count_times(times: &[Times], span: Span) -> u32
     }
 }
 
-// The number of instants, 0 to 2, when the clock shows each civil second of `stretch`.
-fn readings_of(stretch: &Stretch) -> u32
+/// The number of instants, 0 to 2, when the clock shows each civil second of `stretch`.
+pub(crate) fn readings_of(stretch: &Stretch) -> u32
     ensures value { (k : ℕ)
         → result ≡ length (readings_at k stretch.now.earlier stretch.now.later) }
     ensures few { result ≤ 2 }
@@ -70,8 +70,8 @@ fn readings_of(stretch: &Stretch) -> u32
     }
 }
 
-// Replaces `stretch` by one that holds the civil second `second`, unless it already does.
-fn move_to(stretch: &mut Stretch, second: u32, zone: &TimeZone<'_>)
+/// Replaces `stretch` by one that holds the civil second `second`, unless it already does.
+pub(crate) fn move_to(stretch: &mut Stretch, second: u32, zone: &TimeZone<'_>)
     requires range { second < seconds_in_range }
     requires known { IsKnown (plain_zone zone.now) stretch.old }
     ensures known { IsKnown (plain_zone zone.now) stretch.new }

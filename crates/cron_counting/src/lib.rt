@@ -7,3 +7,4 @@ mod hour;
 pub mod laws;
 mod span;
 mod times;
+pub mod walk;

@@ -5,8 +5,10 @@ pub mod TextLaws
 pub mod UnfoldLaws
 pub mod ReadLaws
 pub mod UidLaws
+pub mod SpanLaws
 pub mod PieceLaws
 pub mod LossyLemmas
 pub mod SummaryLaws
+pub mod SpanLines
 pub mod BodyLemmas
 pub mod HeadingLemmas

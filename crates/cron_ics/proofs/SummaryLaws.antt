@@ -9,7 +9,7 @@ use Rattle.cron_ics.specs.Folding.{HasNoReturn}
 use Rattle.cron_ics.specs.Laws.{SummariesAreLines}
 use Rattle.cron_ics.specs.Texts.{escaped, escaped_byte, is_control, shown, shown_byte}
 
-ascii_then : (x : ℕ) (xs : List ℕ) → x < 128 → IsUtf8 xs → IsUtf8 (x ∷ xs)
+pub ascii_then : (x : ℕ) (xs : List ℕ) → x < 128 → IsUtf8 xs → IsUtf8 (x ∷ xs)
 ascii_then x xs small u = IsUtf8-append (x ∷ []) xs (subst IsUtf8 (encode_ascii x small) (IsUtf8-encode x (low_scalar x (omega arith)))) u
 
 ascii : (x : ℕ) → x < 128 → IsUtf8 (x ∷ [])

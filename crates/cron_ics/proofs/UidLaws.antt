@@ -1,5 +1,5 @@
 -- UIDs tell events apart.
-use Rattle.std.proofs.Common.{◌≡◌, ℕ, zero, suc, ◌+◌, ◌/◌, ◌%◌, ◌<◌, ◌^◌, ℤ, pos, negsuc, nat_abs, nat_eq, false, List, [], ◌∷◌, ◌++◌, codes, decimal, drop, get_or, length, refl, sym, ap, ap₂, ◌∙◌, append_assoc, subst, take, arith}
+use Rattle.std.proofs.Common.{◌≡◌, ℕ, zero, suc, ◌/◌, ◌%◌, ◌<◌, ◌^◌, ℤ, pos, negsuc, nat_abs, nat_eq, false, List, [], ◌∷◌, ◌++◌, codes, decimal, drop, get_or, length, refl, sym, ap, ap₂, ◌∙◌, append_assoc, subst, take, arith}
 use Rattle.std.proofs.lemmas.Bool.{eq-eqb, false≢true, ne_eqb}
 use Rattle.std.proofs.lemmas.Fmt.{decimal_injective, decimal_is_IsNumeral, signed_decimal_injective}
 use Rattle.std.specs.Char.{digit_value}
@@ -7,7 +7,7 @@ use Rattle.std.specs.Fmt.{signed_decimal}
 use Rattle.std.specs.Prelude.{slice_index}
 use Rattle.std.specs.Str.Parse.{AllDigits}
 use lib.Signed.{mag}
-use Rattle.hex.specs.Hex.{encode_lower, encode_with, lower_digits}
+use Rattle.hex.specs.Hex.{encode_with, lower_digits}
 use Rattle.sha2.specs.Sha256.{sha256}
 use Rattle.cron_ics.specs.Events.{digest_text, uid_line}
 use Rattle.cron_ics.specs.Laws.{UidsTellEventsApart}
@@ -16,7 +16,7 @@ use Rattle.cron_ics.specs.declared.fires.Fire.{Fire}
 -- ---- texts up to the first byte of a kind
 
 -- no byte of the text is this one
-abbrev HasNo : ℕ → List ℕ → Type 0
+abbrev pub HasNo : ℕ → List ℕ → Type 0
 HasNo c [] = Unit {0}
 HasNo c (b ∷ bs) = (nat_eq b c ≡ false) × HasNo c bs
 
@@ -24,7 +24,7 @@ isnt_it : (c : ℕ) → nat_eq c c ≡ false → ⊥
 isnt_it c h = false≢true (sym h ∙ eq-eqb c c refl)
 
 -- two texts that go on with such a byte
-up_to_first : (c : ℕ) (d e x y : List ℕ) → HasNo c d → HasNo c e → d ++ c ∷ x ≡ e ++ c ∷ y → (d ≡ e) × (x ≡ y)
+pub up_to_first : (c : ℕ) (d e x y : List ℕ) → HasNo c d → HasNo c e → d ++ c ∷ x ≡ e ++ c ∷ y → (d ≡ e) × (x ≡ y)
 up_to_first c [] [] x y p q same = (refl, ap (drop 1) same)
 up_to_first c [] (b ∷ e) x y p q same = absurd (isnt_it c (ap (λ k. nat_eq k c) (ap (λ l. get_or l 0 0) same) ∙ q.0))
 up_to_first c (a ∷ d) [] x y p q same = absurd (isnt_it c (ap (λ k. nat_eq k c) (sym (ap (λ l. get_or l 0 0) same)) ∙ p.0))
@@ -36,7 +36,7 @@ no_minus : (d : List ℕ) → AllDigits 10 d → HasNo 45 d
 no_minus [] h = tt
 no_minus (b ∷ d) h = (ne_eqb b 45 (λ e. let small : digit_value 45 < 10 = subst (λ (k : ℕ). digit_value k < 10) e h.0 in omega (arith, small)), no_minus d h.1)
 
-no_at : (d : List ℕ) → AllDigits 10 d → HasNo 64 d
+pub no_at : (d : List ℕ) → AllDigits 10 d → HasNo 64 d
 no_at [] h = tt
 no_at (b ∷ d) h = (ne_eqb b 64 (λ e. let small : digit_value 64 < 10 = subst (λ (k : ℕ). digit_value k < 10) e h.0 in omega (arith, small)), no_at d h.1)
 
@@ -50,14 +50,14 @@ none_at (x ∷ xs) (suc k) h = none_at xs k h.1
 plain_digits : HasNo 45 lower_digits
 plain_digits = (refl, (refl, (refl, (refl, (refl, (refl, (refl, (refl, (refl, (refl, (refl, (refl, (refl, (refl, (refl, (refl, tt))))))))))))))))
 
-encoded : (bytes : List ℕ) → HasNo 45 (encode_with lower_digits bytes)
+pub encoded : (bytes : List ℕ) → HasNo 45 (encode_with lower_digits bytes)
 unfolding encode_with
 encoded [] = tt
 encoded (b ∷ bs) = (none_at lower_digits (b / 16) plain_digits, (none_at lower_digits (b % 16) plain_digits, encoded bs))
 
 -- ---- numbers
 
-small : (z : ℤ) → nat_abs z < 2 ^ 63 → mag z < 2 ^ 63
+pub small : (z : ℤ) → nat_abs z < 2 ^ 63 → mag z < 2 ^ 63
 small (pos n) h = h
 small (negsuc n) h = omega (arith, h)
 
@@ -68,7 +68,7 @@ starts_otherwise n x y less same = by_text (decimal n) (decimal_is_IsNumeral n l
   by_text (b ∷ d) some h e = isnt_it 45 (ap (λ k. nat_eq k 45) (sym (ap (λ l. get_or l 0 0) e)) ∙ h.0)
 
 -- a number that may lie below zero, up to the minus after it
-up_to_minus : (y z : ℤ) (x w : List ℕ) → mag y < 2 ^ 63 → mag z < 2 ^ 63 → signed_decimal y ++ 45 ∷ x ≡ signed_decimal z ++ 45 ∷ w
+pub up_to_minus : (y z : ℤ) (x w : List ℕ) → mag y < 2 ^ 63 → mag z < 2 ^ 63 → signed_decimal y ++ 45 ∷ x ≡ signed_decimal z ++ 45 ∷ w
     → (signed_decimal y ≡ signed_decimal z) × (x ≡ w)
 up_to_minus (pos m) (pos n) x w p q same =
     up_to_first 45 (decimal m) (decimal n) x w (no_minus (decimal m) (decimal_is_IsNumeral m (omega (arith, p))).0.1)

@@ -4,11 +4,12 @@ use Rattle.jiff.specs.Words.{plain_zone}
 use Rattle.jiff_core.specs.DateTime.{civil_nanos}
 use Rattle.jiff_core.specs.Timestamp.{nanos_of_seconds}
 use Rattle.jiff_tz.specs.declared.timezone.TimeZone.{TimeZone}
-use Rattle.cron_units.specs.Sets.{Sets}
+use Rattle.cron_time.specs.Seconds.{Seconds}
 use Rattle.cron_moments.specs.Readings as moments
 use Rattle.cron_dues.specs.Due as dues
 use Rattle.cron_dues.specs.Dues.{dues_between}
 use Rattle.cron_unions.specs.Unions.{any_of}
+use Rattle.cron_plans.specs.Plans.{planned_by}
 use Rattle.cron_instants.specs.Fires.{fires_between}
 use Rattle.cron_ics.specs.declared.entry.Entry.{Entry}
 use Rattle.cron_ics.specs.declared.fires.Fire.{Fire}
@@ -24,16 +25,20 @@ told_moment m = record { instant = moments.instant m; second = m.second }
 abbrev pub told_due : dues.Due → Told
 told_due d = record { instant = dues.instant d; second = d.second }
 
--- The fires of several schedules as one after the instant `start`, up to and including `end`. If
--- the flag is true each match fires once, and else each time that the clock shows it.
-abbrev pub fires_by : Bool → List Sets → TimeZone → ℤ → ℤ → List Told
-fires_by true ss z start end = map told_due (dues_between (any_of ss) z start end)
-fires_by false ss z start end = map told_moment (fires_between (any_of ss) z start end)
+-- The fires of a set after the instant `start`, up to and including `end`. If the flag is true each
+-- match fires once, and else each time that the clock shows it.
+abbrev pub fires_by : Bool → Seconds → TimeZone → ℤ → ℤ → List Told
+fires_by true s z start end = map told_due (dues_between s z start end)
+fires_by false s z start end = map told_moment (fires_between s z start end)
+
+-- the civil seconds that match: what the entry's plan leaves of its schedules
+abbrev pub matches_of : Entry → Seconds
+matches_of e = planned_by e.plan (any_of e.schedules.now)
 
 -- the fires of an entry after `start`, up to and including `end`; both are in nanoseconds since
 -- 1970
 abbrev pub fires_of : ℤ → ℤ → Entry → List Told
-fires_of start end e = fires_by e.once e.schedules.now (plain_zone e.zone.now) start end
+fires_of start end e = fires_by e.once (matches_of e) (plain_zone e.zone.now) start end
 
 -- the program's fire f holds the fire t: its instant, its civil second, and the time of UTC then
 abbrev pub Tells : Told → Fire → Type 0

@@ -6,4 +6,5 @@ pub mod Fires
 pub mod Events
 pub mod Calendars
 pub mod Reading
+pub mod Spans
 pub mod Laws

@@ -2,6 +2,7 @@
 ghost use Rattle.std.specs.Prelude.{◌≡◌, ◌≤◌, length};
 ghost use Rattle.cron_ics.specs.Events.{copies};
 
+use cron_plans::plan::Plan;
 use cron_units::fields::ScheduleFields;
 use jiff::tz::TimeZone;
 
@@ -14,6 +15,8 @@ pub struct Entry<'a> {
     pub summary: &'a [u8],
     /// The entry's schedules: it fires when any of them does.
     pub schedules: &'a [ScheduleFields],
+    /// What is left out of the fires, and where they are moved.
+    pub plan: Option<Plan<'a>>,
     /// Whether each match fires once, even where the clock skips or repeats it. If not, it fires
     /// each time that the clock shows it.
     pub once: bool,

@@ -43,8 +43,8 @@ pub(crate) fn digest_of(alloc: Global, text: &[u8]) -> Result<String, AllocError
     hex::encode(alloc, &digest[..TOLD])
 }
 
-// Appends a number in decimal digits, with a `-` if it is negative.
-fn push_number(line: &mut Vec<u8>, number: i64) -> Result<(), AllocError>
+/// Appends a number in decimal digits, with a `-` if it is negative.
+pub(crate) fn push_number(line: &mut Vec<u8>, number: i64) -> Result<(), AllocError>
     ensures { OnOk result (line.new.items ≡ line.old.items ++ signed_decimal number) }
 {
     line.extend_from_slice(Buffer::new().format(number).as_bytes())
@@ -100,8 +100,8 @@ fn push_summary(page: &mut Vec<u8>, heading: &Heading) -> Result<(), AllocError>
     push_line(page, heading.summary.as_slice())
 }
 
-// Appends a line with a time of UTC after `name`, such as `DTSTART:`.
-fn push_time(
+/// Appends a line with a time of UTC after `name`, such as `DTSTART:`.
+pub(crate) fn push_time(
     alloc: Global,
     page: &mut Vec<u8>,
     name: &[u8],

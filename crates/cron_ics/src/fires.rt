@@ -9,8 +9,8 @@ use cron_dues::fire::{due_second, nominal_second};
 use cron_dues::once::Once;
 use cron_instants::as_shown::AsShown;
 use cron_moments::moment::{civil_second, instant_of};
+use cron_plans::table::Table;
 use cron_seconds::run::Run;
-use cron_unions::Union;
 use jiff::Timestamp;
 use jiff::civil::DateTime;
 use jiff::tz::{Offset, TimeZone};
@@ -27,11 +27,11 @@ pub struct Fire {
     pub utc: DateTime,
 }
 
-// The fires of a union of schedules that aren't taken yet: each time that the clock shows a match,
+// The fires of schedules, by a plan or without one, that aren't taken yet: each time that the clock shows a match,
 // or each match once.
-type ShownRun<'a> = Run<'a, Union<'a>, AsShown<TimeZone<'a>>>;
+type ShownRun<'a> = Run<'a, Table<'a>, AsShown<TimeZone<'a>>>;
 
-type DueRun<'a> = Run<'a, Union<'a>, Once<TimeZone<'a>>>;
+type DueRun<'a> = Run<'a, Table<'a>, Once<TimeZone<'a>>>;
 
 // A fire from its parts.
 fn fire_of(second: i64, civil: u32, utc: DateTime) -> Fire
@@ -125,9 +125,7 @@ pub(crate) fn fires_of(
         (fires_of start.nanosecond end.nanosecond entry.now)) }
     ensures some { IfErr result (λ why. why ≡ IcsError.NoEvents → ⊥) }
 {
-    let table = Union {
-        schedules: entry.schedules,
-    };
+    let table = Table::of(entry.schedules, &entry.plan);
     if entry.once {
         return collect(
             alloc,

@@ -10,5 +10,6 @@ mod event;
 mod fires;
 mod fold;
 pub mod laws;
+pub mod spans;
 mod stamp;
 pub mod write;

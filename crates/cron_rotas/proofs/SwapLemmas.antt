@@ -1,9 +1,11 @@
 -- Swaps between the seconds at which some begin or end.
 use Rattle.std.proofs.Common.{◌≡◌, ℕ, zero, suc, ◌<◌, ◌+◌, ℤ, ◌≤ℤ◌, ◌<ℤ◌, Bool, true, false, cond, List, [], ◌∷◌, ◌++◌, Option, Some, None, ◌⊎◌, inl, inr, get_or, refl, sym, ap, ◌∙◌, subst, arith}
-use Rattle.std.specs.Prelude.{int_le, int_lt, ◌&&◌, find, reverse, slice_get}
+use Rattle.std.specs.Prelude.{int_le, int_lt, ◌&&◌, find, not, position, reverse, slice_get}
+use Rattle.std.specs.List.{list_all, position_from}
 use Rattle.std.specs.Option.{option_map}
 use Rattle.std.proofs.lemmas.Bool.{cases_lt}
 use Rattle.std.proofs.lemmas.Int.{ints, by_lt_z}
+use Rattle.std.proofs.lemmas.Iterator.Adapters.{position_from-zero}
 use Rattle.std.proofs.lemmas.Option.{get_or_from_slice_get}
 use Rattle.std.proofs.lemmas.List.{reverse-append}
 use Rattle.cron_clocks.proofs.Windows.{le_no, le_yes, lt_no, lt_yes}
@@ -75,3 +77,18 @@ step-edge swaps index k d a end earlier below le before here s get = elim (cases
       let get_here : slice_get swaps index ≡ Some s = ap (slice_get swaps) (sym place) ∙ get in
       subst (NoEdgeOf a earlier) (get_or_from_slice_get swaps index s d get_here) here
 ]
+
+-- ---- no swap is wrong
+
+pass_on : {A : Type 0} (p : A → Bool) (i : ℕ) (x : A) (l : List A) (b : Bool) → p x ≡ b → cond (not b) (Some i) (position_from (λ y. not (p y)) (i + 1) l) ≡ None
+    → (position_from (λ y. not (p y)) (i + 1) l ≡ None → list_all p l ≡ true) → list_all p (x ∷ l) ≡ true
+pass_on p i x l true is none rest = ap (λ b. b && list_all p l) is ∙ rest none
+pass_on p i x l false is none rest = absurd (cc)
+
+all_pass : {A : Type 0} (p : A → Bool) (i : ℕ) (l : List A) → position_from (λ x. not (p x)) i l ≡ None → list_all p l ≡ true
+all_pass p i [] none = refl
+all_pass p i (x ∷ l) none = pass_on p i x l (p x) refl none (all_pass p (i + 1) l)
+
+-- where no place has an element that fails, all pass
+pub none_fails : {A : Type 0} (p : A → Bool) (l : List A) → position (λ x. not (p x)) l ≡ None → list_all p l ≡ true
+none_fails p l none = all_pass p 0 l (sym (position_from-zero (λ x. not (p x)) l) ∙ none)

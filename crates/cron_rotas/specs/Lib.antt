@@ -1,4 +1,5 @@
 pub mod Rotas
+pub mod Errors
 pub mod Edges
 pub mod Steps
 pub mod Laws

@@ -9,6 +9,7 @@
 #![tactic(auto)]
 
 pub mod duty;
+pub mod error;
 pub mod laws;
 pub mod rota;
 pub mod shifts;

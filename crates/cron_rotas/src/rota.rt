@@ -1,11 +1,13 @@
 //! A rota, and who is on duty at an instant.
-ghost use Rattle.std.specs.Prelude.{◌≡◌, ◌+◌, ◌%◌, ◌<◌, ◌⊎◌, ◌≤ℤ◌, ◌<ℤ◌, IfSome, MatchOption, Some, true, false};
+ghost use Rattle.std.specs.Prelude.{◌≡◌, ◌+◌, ◌%◌, ◌<◌, ◌⊎◌, ◌≤ℤ◌, ◌<ℤ◌, IfSome, MatchResult, Some, true};
 ghost use Rattle.std.specs.Int.{int_max};
 ghost use Rattle.cron_stretches.specs.Fires.{IsInstant, instants, second_of};
+ghost use Rattle.cron_rotas.specs.Errors.{IsNoRota};
 ghost use Rattle.cron_rotas.specs.Rotas.{handovers_in, is_rota, on_duty, person_at, turn_at};
 ghost use Rattle.cron_rotas.specs.Steps.{IsShift, IsStep};
 
-use crate::swap::{Swap, is_rota, next_edge, swapped};
+use crate::error::RotaError;
+use crate::swap::{Swap, check_rota, next_edge, swapped};
 use crate::turn::{Turn, next_person};
 use cron_seconds::civil_seconds::CivilSeconds;
 use cron_seconds::rule::Rule;
@@ -79,29 +81,27 @@ fn turn_after<S: CivilSeconds, R: Rule>(
 }
 
 impl<'a, S: CivilSeconds, R: Rule> Rota<'a, S, R> {
-    /// The rota of `people` people, numbered from 0, from `start` on. `None` exactly if there are
-    /// no people, or a swap has no seconds or isn't of one of the people.
+    /// The rota of `people` people, numbered from 0, from `start` on. `Err` exactly if there are no
+    /// people, or a swap has no seconds or isn't of one of the people. It has the first such swap.
     pub fn of(
         people: u32,
         handovers: S,
         start: Timestamp,
         swaps: &'a [Swap],
         clock: &'a R::Clock,
-    ) -> Option<Rota<'a, S, R>>
-        ensures { MatchOption result
-            (is_rota people swaps.now ≡ false)
+    ) -> Result<Rota<'a, S, R>, RotaError>
+        ensures { MatchResult result
             (λ rota. (is_rota people swaps.now ≡ true)
             × (rota ≡ record {
               people = people;
               start = second_of start.nanosecond;
               handovers = instants R.at (R.fires (S.has handovers) clock.now);
               swaps = swaps.now;
-            })) }
+            }))
+            (IsNoRota people swaps.now) }
     {
-        if !is_rota(people, swaps) {
-            return None;
-        }
-        Some(Rota {
+        check_rota(people, swaps)?;
+        Ok(Rota {
             people,
             handovers,
             start: second_of(start),

@@ -1,8 +1,10 @@
 //! Swaps, which stand before the turns of a rota.
-ghost use Rattle.std.specs.Prelude.{◌≡◌, ◌≤ℤ◌, ◌<ℤ◌, ◌⊎◌};
-ghost use Rattle.std.specs.List.{list_all};
+ghost use Rattle.std.specs.Prelude.{◌≡◌, ◌≤ℤ◌, ◌<ℤ◌, ◌⊎◌, MatchResult, not, position, true};
+ghost use Rattle.cron_rotas.specs.Errors.{IsNoRota};
 ghost use Rattle.cron_rotas.specs.Rotas.{holds_at, is_rota, is_swap_of, swapped};
 ghost use Rattle.cron_rotas.specs.Edges.{IsNextEdge, NoEdgeOf};
+
+use crate::error::RotaError;
 
 /// A person who has duty from one second on and before another, whosever turn it is. Seconds count
 /// from 1970-01-01T00:00:00Z.
@@ -43,18 +45,25 @@ impl Swap {
     }
 }
 
-// Whether each swap has seconds, and is of one of `people` people.
-fn are_of(people: u32, swaps: &[Swap]) -> bool
-    ensures { result ≡ list_all (is_swap_of people) swaps.now }
+// The number of the first swap that has no seconds, or isn't of one of `people` people.
+fn first_wrong(people: u32, swaps: &[Swap]) -> Option<usize>
+    ensures { result ≡ position (λ s. not (is_swap_of people s)) swaps.now }
 {
-    swaps.iter().all(|swap| swap.is_of(people))
+    swaps.iter().position(|swap| !swap.is_of(people))
 }
 
-/// Whether there are people, and each swap has seconds and is of one of them.
-pub(crate) fn is_rota(people: u32, swaps: &[Swap]) -> bool
-    ensures { result ≡ is_rota people swaps.now }
+/// Checks that there are people, and that each swap has seconds and is of one of them.
+pub(crate) fn check_rota(people: u32, swaps: &[Swap]) -> Result<(), RotaError>
+    ensures { MatchResult result (λ _. is_rota people swaps.now ≡ true)
+        (IsNoRota people swaps.now) }
 {
-    people > 0 && are_of(people, swaps)
+    if people == 0 {
+        return Err(RotaError::NoPeople);
+    }
+    match first_wrong(people, swaps) {
+        Some(number) => Err(RotaError::Swap(number)),
+        None => Ok(()),
+    }
 }
 
 /// The person of the last of some swaps that holds at `second`. `None` if none does.

@@ -24,7 +24,7 @@ enum Kind {
     Rotas,
     /// A rule, a zone, a rota, and a second: who is on duty.
     Who,
-    /// How many people, and swaps: whether the rota is taken.
+    /// How many people, and swaps: whether the rota is taken, or why not.
     Refused,
 }
 

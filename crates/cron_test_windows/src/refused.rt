@@ -1,15 +1,16 @@
-//! Rows of rotas that are refused.
+//! Rows of rotas that are refused, and why.
 
 use crate::rotas::swaps_of;
 use crate::windows::schedule_of;
 use anyhow::Result;
 use cron_fires::AsShown;
+use cron_rotas::error::RotaError;
 use cron_rotas::rota::Rota;
 use cron_test_rows::Row;
 use jiff::Timestamp;
 use jiff::tz::TimeZone;
 
-/// Compares whether a rota is taken.
+/// Compares whether a rota is taken, and why not.
 pub(crate) fn ask(row: &mut Row<'_>) -> Result<()> {
     let people = row.cell().parse::<u32>()?;
     let swaps = swaps_of(row.alloc(), row.cell())?;
@@ -23,6 +24,13 @@ pub(crate) fn ask(row: &mut Row<'_>) -> Result<()> {
         swaps.as_slice(),
         &zone,
     );
-    row.add("\t", &if made.is_some() { "taken" } else { "refused" })?;
+    match made {
+        Ok(_) => row.add("", &"taken")?,
+        Err(RotaError::NoPeople) => row.add("", &"no people")?,
+        Err(RotaError::Swap(number)) => {
+            row.add("", &"swap")?;
+            row.add(" ", &number)?;
+        }
+    }
     row.check("its refusal")
 }

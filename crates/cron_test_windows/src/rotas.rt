@@ -76,10 +76,7 @@ fn ask_by<R: Rule>(
     question: Question,
 ) -> Result<()> {
     let start = Timestamp::from_second(given.start)?;
-    let made = Rota::<_, R>::of(given.people, &given.handovers, start, given.swaps, zone);
-    let Some(rota) = made else {
-        bail!("no rota");
-    };
+    let rota = Rota::<_, R>::of(given.people, &given.handovers, start, given.swaps, zone)?;
     match question {
         Question::Shifts(from, to) => check_shifts(row, &rota, from, to),
         Question::Who(at) => {

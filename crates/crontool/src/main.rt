@@ -9,6 +9,8 @@ mod explain;
 mod late;
 mod oncalendar;
 mod overlap;
+mod rota;
+mod windows;
 
 use clap::{ArgMatches, Error};
 use cron_answers::answer::{Request, answer};
@@ -17,6 +19,7 @@ use cron_writer::watched::Watched;
 use cron_zones::machine::MachineFiles;
 use crontool_machine::looks::{format_of, times_of};
 use crontool_machine::machine::{Surroundings, complain};
+use crontool_machine::plans::Planning;
 use crontool_machine::tips::tell_tip;
 use crontool_runs::{alarm, run};
 use crontool_tabs::{
@@ -65,21 +68,31 @@ fn answer_timed(rt: &HostRuntime, request: &Request<'_>, around: &Surroundings) 
     )
 }
 
-// Answers a request of `next` or `between`, with times as the words say. `Err` has the status of the
-// subcommand if the clock, TZ or TZDIR can't be read, or if a word is wrong.
+// Answers a request of `next` or `between`, with the times and the plan of the words. `Err` has the
+// status of the subcommand if the clock, TZ, TZDIR or a file can't be read, or if a word is wrong.
 fn answer_request<'a>(
     rt: &HostRuntime,
     name: &str,
     words: &ArgMatches<'a>,
     request: Request<'a>,
 ) -> Result<Status, Status> {
+    let planning = Planning::of(rt, words, "last")?;
     let around = Surroundings::of(rt)?;
-    if name != "next" {
-        let times = format_of(words);
-        return Ok(answer_timed(rt, &Request { times, ..request }, &around));
-    }
-    match times_of(rt, words, around.now, false) {
-        Ok(times) => Ok(answer_timed(rt, &Request { times, ..request }, &around)),
+    let times = if name == "next" {
+        times_of(rt, words, around.now, false)
+    } else {
+        Ok(format_of(words))
+    };
+    match times {
+        Ok(times) => {
+            let plan = planning.plan();
+            let planned = Request {
+                times,
+                plan,
+                ..request
+            };
+            Ok(answer_timed(rt, &planned, &around))
+        }
         Err(status) => Err(status),
     }
 }
@@ -99,6 +112,9 @@ fn answer_words(rt: &HostRuntime, name: &str, words: &ArgMatches<'_>) -> Status 
         "systemd" => systemd::answer(rt, words),
         "explain" if words.get_strs("file").is_some() => explain_tabs::answer(rt, words),
         "explain" => explain::answer(rt, words),
+        "windows" => windows::list(rt, words),
+        "inside" => windows::say(rt, words),
+        "rota" => rota::answer(rt, words),
         "calendar" => calendar::answer(rt, words),
         "ics" => ics::answer(rt, words),
         "completions" => completions::answer(rt, words),

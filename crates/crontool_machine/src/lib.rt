@@ -7,5 +7,6 @@ pub mod looks;
 pub mod machine;
 pub mod notes;
 pub mod pair;
+pub mod plans;
 pub mod tips;
 pub mod zones;

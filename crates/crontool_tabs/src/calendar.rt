@@ -13,6 +13,7 @@ use cron_calendar::pages::{Shown, html_month, html_page, json_rows, text_page};
 use cron_calendar::plans::Plan;
 use cron_crontab::Expression as TabExpression;
 use cron_fires::ClockChanges;
+use cron_plans::plan::Plan as Rules;
 use cron_replies::status::Status;
 use cron_tab_agenda::TabFile;
 use cron_tab_lines::{Crontab, Entry, Line, Lines, NamedZone, zone_below};
@@ -22,6 +23,7 @@ use crontool_machine::looks::wants_colour;
 use crontool_machine::machine::{
     Surroundings, complain, controls_of, no_memory, open_zone, read_all, say_trouble, write_page,
 };
+use crontool_machine::plans::Planning;
 use crontool_machine::zones::TabZones;
 use jiff::tz::TimeZone;
 use std::alloc::{AllocError, Global};
@@ -101,11 +103,12 @@ fn add_entries<'a>(
     Ok(left_out)
 }
 
-// The expressions in the form that a calendar takes. The rule at clock changes is `chosen`, or each
-// expression's own if that is `None`.
+// The expressions in the form that a calendar takes, each by the plan `rules`. The rule at clock
+// changes is `chosen`, or each expression's own if that is `None`.
 fn plans_of<'a>(
     alloc: Global,
     named: &'a [Named<'a>],
+    rules: Option<Rules<'a>>,
     chosen: Option<ClockChanges>,
 ) -> Result<Vec<Plan<'a>>, AllocError> {
     let mut plans = Vec::new(alloc);
@@ -113,6 +116,7 @@ fn plans_of<'a>(
         plans.push(Plan {
             name: one.name,
             schedules: one.expression.as_slice(),
+            plan: rules,
             once: matches!(one.expression.changes(chosen), ClockChanges::Once),
         })?;
     }
@@ -195,7 +199,7 @@ fn show<'a>(
     }
 }
 
-// Writes the calendar of the expressions' fires in the zone `name`.
+// Writes the calendar of the expressions' fires in the zone `name`, by the plan of the words.
 fn show_named<'a>(
     rt: &HostRuntime,
     words: &ArgMatches<'_>,
@@ -206,8 +210,9 @@ fn show_named<'a>(
 ) -> Result<Status, Status>
     requires { IsPeriod period }
 {
+    let planning = Planning::of(rt, words, "last")?;
     let opened = open_zone(rt, name, around)?;
-    match plans_of(rt.alloc(), named, changes_of(words)) {
+    match plans_of(rt.alloc(), named, planning.plan(), changes_of(words)) {
         Ok(plans) => Ok(show(
             rt,
             words,

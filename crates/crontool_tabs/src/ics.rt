@@ -12,6 +12,7 @@ use cron_ics::domain::Domain;
 use cron_ics::entry::Entry;
 use cron_ics::error::IcsError;
 use cron_ics::write::write_calendar;
+use cron_plans::plan::Plan;
 use cron_replies::status::Status;
 use cron_tab_agenda::TabFile;
 use cron_tab_lines::{Crontab, Line, Lines, NamedZone, zone_below};
@@ -21,6 +22,7 @@ use crontool_machine::choices::changes_of;
 use crontool_machine::machine::{
     Surroundings, complain, no_memory, open_zone, read_all, read_file, say_trouble,
 };
+use crontool_machine::plans::Planning;
 use crontool_machine::zones::TabZones;
 use jiff::tz::TimeZone;
 use std::alloc::{AllocError, Global};
@@ -93,12 +95,13 @@ fn add_entries<'a>(
     Ok(())
 }
 
-// The entries of the calendar, each in its zone. The rule at clock changes is `chosen`, or each
-// entry's own if that is `None`.
+// The entries of the calendar, each in its zone and by `plan`. The rule at clock changes is `chosen`,
+// or each entry's own if that is `None`.
 fn entries_of<'a>(
     alloc: Global,
     named: &'a [Named<'a>],
     zones: &'a [TimeZone<'a>],
+    plan: Option<Plan<'a>>,
     chosen: Option<ClockChanges>,
 ) -> Result<Vec<Entry<'a>>, AllocError> {
     let mut entries = Vec::new(alloc);
@@ -108,6 +111,7 @@ fn entries_of<'a>(
                 text: one.text,
                 summary: one.summary,
                 schedules: one.expression.as_slice(),
+                plan,
                 once: matches!(one.expression.changes(chosen), ClockChanges::Once),
                 zone,
             })?;
@@ -224,6 +228,7 @@ fn write_zoned<'x>(
     zone: TimeZone<'_>,
     around: &'x Surroundings,
 ) -> Result<Status, Status> {
+    let planning = Planning::of(rt, words, "last")?;
     let tabs = TabZones::of(rt, files, around)?;
     let numbered = tabs.numbered(rt, zone)?;
     let mut named = Vec::new(rt.alloc());
@@ -233,6 +238,7 @@ fn write_zoned<'x>(
         rt.alloc(),
         named.as_slice(),
         numbered.zones.as_slice(),
+        planning.plan(),
         changes_of(words),
     ) {
         Ok(entries) => Ok(told.worse(write_entries(rt, entries.as_slice(), wanted))),

@@ -2,10 +2,11 @@
 
 use crate::subcommands::Subcommand;
 use crate::words::{
-    AS_SHOWN, COLOR, END, EXPRESSIONS, FILE, Kind, ONCE, QUARTZ, Rule, START, Word, ZONE,
+    AS_SHOWN, COLOR, END, EXPRESSIONS, FILE, Kind, LAST, ONCE, PLAN, QUARTZ, Rule, START, Word,
+    ZONE,
 };
 
-pub(crate) const CALENDAR: Subcommand = Subcommand {
+static CALENDAR: Subcommand = Subcommand {
     name: "calendar",
     about: "Shows how many fires each day has",
     usages: &[],
@@ -35,10 +36,17 @@ pub(crate) const CALENDAR: Subcommand = Subcommand {
         ZONE,
         ONCE,
         AS_SHOWN,
+        LAST,
     ],
+    plan: &PLAN,
 };
 
-pub(crate) const ICS: Subcommand = Subcommand {
+/// The subcommand `calendar`.
+pub(crate) fn calendar() -> &'static Subcommand {
+    &CALENDAR
+}
+
+static ICS: Subcommand = Subcommand {
     name: "ics",
     about: "Writes the fires of between as a calendar of RFC 5545",
     usages: &[
@@ -76,5 +84,12 @@ pub(crate) const ICS: Subcommand = Subcommand {
         ZONE,
         ONCE,
         AS_SHOWN,
+        LAST,
     ],
+    plan: &PLAN,
 };
+
+/// The subcommand `ics`.
+pub(crate) fn ics() -> &'static Subcommand {
+    &ICS
+}

@@ -1,6 +1,6 @@
 //! The command line as `clap` parses it, and the requests of `next` and `between`.
 
-use crate::subcommands::{SUBCOMMANDS, Subcommand};
+use crate::subcommands::{Subcommand, subcommands};
 use crate::words::{Kind, Rule, Word};
 use clap::{Arg, ArgAction, ArgMatches, Command, value_parser};
 use cron_answers::answer::{Request, Which};
@@ -93,7 +93,7 @@ fn subcommand<'a>(
     let mut command = Command::new(alloc, said.name)
         .about(said.about)
         .after_help(texts.examples.as_str());
-    for word in said.words {
+    for word in said.words.iter().chain(said.plan) {
         command = command.arg(arg_of(alloc, word, has_back)?)?;
     }
     if texts.usage.is_empty() {
@@ -132,7 +132,7 @@ pub struct HelpTexts {
 /// What the help of each subcommand tells, for a program that was called as `program`.
 pub fn texts_of(alloc: Global, program: &str) -> Result<Vec<HelpTexts>, AllocError> {
     let mut texts = Vec::new(alloc);
-    for said in &SUBCOMMANDS {
+    for said in subcommands() {
         texts.push(HelpTexts {
             usage: usage_of(alloc, program, said)?,
             examples: examples_of(alloc, said)?,
@@ -160,7 +160,8 @@ pub fn command<'a>(
         .after_help(AFTER_HELP)
         .subcommand_required(true)
         .arg_required_else_help(true);
-    for (said, text) in SUBCOMMANDS.iter().zip(texts.iter()) {
+    let all = subcommands();
+    for (said, text) in all.iter().zip(texts.iter()) {
         command = command.subcommand(subcommand(alloc, said, text, has_back)?)?;
     }
     Ok(command)
@@ -210,7 +211,7 @@ fn between_of<'a>(matches: &ArgMatches<'a>) -> Result<(Which<'a>, &'a str), &'st
     }
 }
 
-/// The request of `next` or `between`, with plain times. `Err` says what is wrong with the words.
+/// The request of `next` or `between`, with plain times and without a plan. `Err` says what is wrong with the words.
 pub fn request_of<'a>(name: &str, matches: &ArgMatches<'a>) -> Result<Request<'a>, &'static str> {
     let (which, expression) = if name == "next" {
         next_of(matches)?
@@ -224,6 +225,8 @@ pub fn request_of<'a>(name: &str, matches: &ArgMatches<'a>) -> Result<Request<'a
         which,
         changes: changes_of(matches),
         form: form_of(matches),
+        plan: None,
+        plan_lines: "",
         times: Times::Plain,
     })
 }

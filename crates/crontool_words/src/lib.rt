@@ -5,7 +5,10 @@
 mod calendars;
 pub mod commands;
 pub mod completions;
+mod expressions;
 mod missing;
+mod plans;
 mod runs;
 mod subcommands;
+mod tabs;
 mod words;

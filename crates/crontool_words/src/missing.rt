@@ -3,11 +3,11 @@
 
 use crate::subcommands::Subcommand;
 use crate::words::{
-    AN_OBJECT, AS_SHOWN, EXPRESSION, FILE, FILES, JSON, JSON_ROWS, Kind, ONCE, QUARTZ, Rule,
-    SYSTEM, Word, ZONE,
+    AN_OBJECT, AS_SHOWN, EXPRESSION, FILE, FILES, JSON, JSON_ROWS, Kind, LAST_DAY, ONCE, PLAN,
+    QUARTZ, Rule, SYSTEM, Word, ZONE,
 };
 
-pub(crate) const LATE: Subcommand = Subcommand {
+static LATE: Subcommand = Subcommand {
     name: "late",
     about: "Says whether a fire was missed since the last run, by its status too",
     usages: &[],
@@ -34,10 +34,17 @@ pub(crate) const LATE: Subcommand = Subcommand {
         ONCE,
         AS_SHOWN,
         AN_OBJECT,
+        LAST_DAY,
     ],
+    plan: &PLAN,
 };
 
-pub(crate) const MISSED: Subcommand = Subcommand {
+/// The subcommand `late`.
+pub(crate) fn late() -> &'static Subcommand {
+    &LATE
+}
+
+static MISSED: Subcommand = Subcommand {
     name: "missed",
     about: "Tells which fires entries of crontabs missed, up to and with now, by its status too",
     usages: &[
@@ -68,9 +75,15 @@ pub(crate) const MISSED: Subcommand = Subcommand {
         ONCE,
         AS_SHOWN,
     ],
+    plan: &[],
 };
 
-pub(crate) const DUE: Subcommand = Subcommand {
+/// The subcommand `missed`.
+pub(crate) fn missed() -> &'static Subcommand {
+    &MISSED
+}
+
+static DUE: Subcommand = Subcommand {
     name: "due",
     about: "Lists the fires that came due after the one that a stamp notes",
     usages: &[],
@@ -88,9 +101,15 @@ pub(crate) const DUE: Subcommand = Subcommand {
         JSON,
         Word("latest", Kind::Flag, &[], "The last of them alone"),
     ],
+    plan: &[],
 };
 
-pub(crate) const DONE: Subcommand = Subcommand {
+/// The subcommand `due`.
+pub(crate) fn due() -> &'static Subcommand {
+    &DUE
+}
+
+static DONE: Subcommand = Subcommand {
     name: "done",
     about: "Notes a fire in a stamp, unless it notes a later one",
     usages: &[],
@@ -102,4 +121,10 @@ pub(crate) const DONE: Subcommand = Subcommand {
         Word("STAMP", Kind::Given, &[], "A file"),
         Word("FIRE", Kind::Given, &[], "A fire as it was printed"),
     ],
+    plan: &[],
 };
+
+/// The subcommand `done`.
+pub(crate) fn done() -> &'static Subcommand {
+    &DONE
+}

@@ -5,7 +5,7 @@ use crate::words::{
     AS_SHOWN, EXPRESSION, FILES, Kind, ONCE, QUARTZ, RUNS, Rule, SYSTEM, Word, ZONE,
 };
 
-pub(crate) const RUN: Subcommand = Subcommand {
+static RUN: Subcommand = Subcommand {
     name: "run",
     about: "Writes the command of each entry of crontabs when it fires",
     usages: &[],
@@ -59,12 +59,24 @@ pub(crate) const RUN: Subcommand = Subcommand {
         AS_SHOWN,
         RUNS,
     ],
+    plan: &[],
 };
 
-pub(crate) const ALARM: Subcommand = Subcommand {
+/// The subcommand `run`.
+pub(crate) fn run() -> &'static Subcommand {
+    &RUN
+}
+
+static ALARM: Subcommand = Subcommand {
     name: "alarm",
     about: "Writes a line at each fire of an expression, when it comes",
     usages: &[],
     examples: ["alarm '0 * * * *'", "alarm @daily --count 1 --zone UTC"],
     words: &[EXPRESSION, QUARTZ, ZONE, ONCE, AS_SHOWN, RUNS],
+    plan: &[],
 };
+
+/// The subcommand `alarm`.
+pub(crate) fn alarm() -> &'static Subcommand {
+    &ALARM
+}

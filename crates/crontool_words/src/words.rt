@@ -129,3 +129,54 @@ pub(crate) const COLOR: Word = Word(
 );
 
 pub(crate) const RUNS: Word = Word("count", Kind::Count, &[], "How many runs at most");
+
+/// `--last` of a plan.
+pub(crate) const LAST: Word = Word("last", Kind::Choice("DATE"), &[], "The last day with fires");
+
+/// `--last` of a plan where `--last` is an instant.
+pub(crate) const LAST_DAY: Word = Word(
+    "last-day",
+    Kind::Choice("DATE"),
+    &[],
+    "The last day with fires",
+);
+
+/// The other options of a plan: which fires are left out, and where they move.
+pub(crate) const PLAN: [Word; 6] = [
+    Word(
+        "every",
+        Kind::Choice("STEP"),
+        &[Rule::With("anchor")],
+        "One day, week or month in so many, as 3d, 2w or 2mo",
+    ),
+    Word(
+        "anchor",
+        Kind::Choice("DATE"),
+        &[Rule::With("every")],
+        "A date in one of those of --every",
+    ),
+    Word(
+        "first",
+        Kind::Choice("DATE"),
+        &[],
+        "The first day with fires",
+    ),
+    Word(
+        "holidays",
+        Kind::Choice("FILE"),
+        &[],
+        "Days without fires: a date a line, or an .ics",
+    ),
+    Word(
+        "move",
+        Kind::Choice("WAY"),
+        &[],
+        "Moves fires on other days to an allowed one: before or after",
+    ),
+    Word(
+        "except",
+        Kind::Choice("EXPRESSION"),
+        &[],
+        "Leaves out what this matches too",
+    ),
+];

@@ -1,7 +1,7 @@
 //! The completions of bash: a script that completes lines of `crontool`.
 
 use crate::completions::{Place, Values, place_of, push_all, push_joined, values_of};
-use crate::subcommands::{SUBCOMMANDS, Subcommand};
+use crate::subcommands::{Subcommand, subcommands};
 use crate::words::Word;
 use std::alloc::{AllocError, Global};
 
@@ -86,11 +86,11 @@ fn push_place(script: &mut String, word: &Word) -> Result<(), AllocError> {
 
 fn push_subcommand(script: &mut String, said: &Subcommand) -> Result<(), AllocError> {
     push_all(script, &["    ", said.name, ") options='"])?;
-    for word in said.words {
+    for word in said.words.iter().chain(said.plan) {
         push_option(script, word)?;
     }
     script.push_str("' places='")?;
-    for word in said.words {
+    for word in said.words.iter().chain(said.plan) {
         push_place(script, word)?;
     }
     script.push_str("' ;;\n")
@@ -101,12 +101,12 @@ pub(crate) fn script(alloc: Global) -> Result<String, AllocError> {
     let mut script = String::new(alloc);
     script.push_str("# Completions of crontool for bash\n_crontool_subcommands=")?;
     let mut front = "";
-    for said in &SUBCOMMANDS {
+    for said in subcommands() {
         push_all(&mut script, &[front, said.name])?;
         front = ",";
     }
     script.push_str("\n\n_crontool_words() { # SUBCOMMAND\n    case $1 in\n")?;
-    for said in &SUBCOMMANDS {
+    for said in subcommands() {
         push_subcommand(&mut script, said)?;
     }
     script.push_str("    help) places=$_crontool_subcommands ;;\n    esac\n}\n")?;

@@ -1,7 +1,7 @@
 //! The completions of fish: a script that completes lines of `crontool`.
 
 use crate::completions::{Place, Values, place_of, push_all, push_help, push_joined, values_of};
-use crate::subcommands::{SUBCOMMANDS, Subcommand};
+use crate::subcommands::{Subcommand, subcommands};
 use crate::words::Word;
 use std::alloc::{AllocError, Global};
 
@@ -79,7 +79,7 @@ fn push_subcommand(script: &mut String, said: &Subcommand) -> Result<(), AllocEr
     push_all(script, &[front, " -a ", said.name, " -d '"])?;
     push_help(script, said.about, false)?;
     script.push_str("'\n")?;
-    for word in said.words {
+    for word in said.words.iter().chain(said.plan) {
         push_word(script, said, word)?;
     }
     Ok(())
@@ -89,7 +89,7 @@ fn push_subcommand(script: &mut String, said: &Subcommand) -> Result<(), AllocEr
 pub(crate) fn script(alloc: Global) -> Result<String, AllocError> {
     let mut script = String::new(alloc);
     script.push_str(START)?;
-    for said in &SUBCOMMANDS {
+    for said in subcommands() {
         push_subcommand(&mut script, said)?;
     }
     Ok(script)

@@ -54,6 +54,7 @@ pub(crate) fn values_of(name: &str) -> Values {
         "FOLDER" => Values::Folders,
         "ZONE" => Values::Zones,
         "RULE" => Values::Words(&["latest", "each", "within="]),
+        "WAY" => Values::Words(&["after", "before"]),
         "SHELL" => Values::Words(&["bash", "fish", "zsh"]),
         "START" | "END" | "INSTANT" => Values::Words(&INSTANTS),
         _ => Values::Any,

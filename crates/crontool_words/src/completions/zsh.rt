@@ -1,7 +1,7 @@
 //! The completions of zsh: a script that completes lines of `crontool`.
 
 use crate::completions::{Place, Values, place_of, push_all, push_help, push_joined, values_of};
-use crate::subcommands::{SUBCOMMANDS, Subcommand};
+use crate::subcommands::{Subcommand, subcommands};
 use crate::words::Word;
 use std::alloc::{AllocError, Global};
 
@@ -93,7 +93,7 @@ fn push_subcommand(script: &mut String, said: &Subcommand) -> Result<(), AllocEr
         script,
         &["    ", said.name, ") _arguments '--help[Print help]'"],
     )?;
-    for word in said.words {
+    for word in said.words.iter().chain(said.plan) {
         push_word(script, word)?;
     }
     script.push_str(" ;;\n")
@@ -103,13 +103,13 @@ fn push_subcommand(script: &mut String, said: &Subcommand) -> Result<(), AllocEr
 pub(crate) fn script(alloc: Global) -> Result<String, AllocError> {
     let mut script = String::new(alloc);
     script.push_str(START)?;
-    for said in &SUBCOMMANDS {
+    for said in subcommands() {
         push_all(&mut script, &["        '", said.name, ":"])?;
         push_help(&mut script, said.about, true)?;
         script.push_str("'\n")?;
     }
     script.push_str(MIDDLE)?;
-    for said in &SUBCOMMANDS {
+    for said in subcommands() {
         push_subcommand(&mut script, said)?;
     }
     script.push_str(END)?;

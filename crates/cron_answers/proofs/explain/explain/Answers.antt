@@ -43,8 +43,8 @@ returns-clause-answers g c =
             end = texts.end;
             is_end = texts.is_end;
             tally = texts.tally;
-            is_tally = texts.is_tally;
-            ends = rw (c.changes-changes.ensures, c.as_slice-schedules.ensures.list, texts.tail) at ended;
+            is_tally = rw c.table-table.ensures at texts.is_tally;
+            ends = rw (c.changes-changes.ensures, c.table-table.ensures, texts.tail) at ended;
           };
         },
         c.send_between.ensures.mark,

@@ -1,4 +1,4 @@
-use Rattle.std.proofs.Common.{◌≡◌, ◌∷◌, ◌∙◌, ℤ, List, ap, map, rules, sym}
+use Rattle.std.proofs.Common.{ap, map, rules}
 use Rattle.cron_answers.proofs.TallyLemmas.{all_counted, counted_on, none_so_far}
 use Rattle.cron_answers.proofs.tally.count_left.Goals as goal
 

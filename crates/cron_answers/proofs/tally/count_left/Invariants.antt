@@ -1,5 +1,5 @@
 -- the fires so far were counted, with their waits
-use Rattle.std.proofs.Common.{◌≡◌, length, map}
+use Rattle.std.proofs.Common.{length, map}
 use Rattle.cron_answers.proofs.TallyLemmas.{IsSoFar}
 use Rattle.cron_answers.proofs.tally.count_left.Given as goal
 

@@ -3,4 +3,4 @@ use Rattle.std.specs.Prelude.{replicate}
 use Rattle.cron_calendar.proofs.times.push_times.Given as goal
 
 abbrev pub invariant-loop : goal.invariant-loop
-invariant-loop l = l.times.items ≡ l.fn.times.items ++ replicate l.counter l.second
+invariant-loop g l = l.times.items ≡ l.fn.times.items ++ replicate l.counter l.second

@@ -1,0 +1,4 @@
+pub mod ListLemmas
+pub mod ContentLemmas
+pub mod CalendarLemmas
+pub mod EventLemmas

@@ -1,0 +1,12 @@
+pub mod Messages
+pub mod Lines
+pub mod Dates
+pub mod Lists
+pub mod Contents
+pub mod Properties
+pub mod Events
+pub mod Calendars
+pub mod Faults
+pub mod Holidays
+pub mod Views
+pub mod Inner

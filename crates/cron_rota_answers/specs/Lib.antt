@@ -1,0 +1,11 @@
+pub mod Cells
+pub mod People
+pub mod Lines
+pub mod SwapErrors
+pub mod Swaps
+pub mod Rows
+pub mod Reports
+pub mod Plans
+pub mod Troubles
+pub mod RotaAnswers
+pub mod Inner

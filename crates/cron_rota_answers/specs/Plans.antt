@@ -1,0 +1,79 @@
+-- What the words of `rota` mean in a zone.
+use Rattle.std.specs.Prelude.{◌≡◌, ◌⊎◌, ℕ, ℤ, List, [], Option, Some, None}
+use Rattle.jiff_tz.specs.declared.timezone.TimeZone.{TimeZone}
+use Rattle.cron_answers.specs.Instants.{IsInstant}
+use Rattle.cron_answers.specs.Spans.{IsNoSpan, IsSpan}
+use Rattle.cron_answers.specs.declared.span.Span.TheVariants.{Ends}
+use Rattle.cron_answers.specs.declared.trouble.Trouble.{Trouble}
+use Rattle.cron_answers.specs.declared.trouble.Trouble.TheVariants.{Instant}
+use Rattle.cron_rotas.specs.declared.swap.Swap.{Swap}
+use Rattle.cron_rota_answers.specs.Lines.{lines_of}
+use Rattle.cron_rota_answers.specs.People.{AreNoPeople, ArePeople}
+use Rattle.cron_rota_answers.specs.Swaps.{AreSwaps, AreWrong, Given, given}
+use Rattle.cron_rota_answers.specs.declared.report.Asked.{Asked}
+use Rattle.cron_rota_answers.specs.declared.report.Asked.TheVariants as asked
+use Rattle.cron_rota_answers.specs.declared.request.Request.{Request}
+use Rattle.cron_rota_answers.specs.declared.request.SwapFile.{SwapFile}
+use Rattle.cron_rota_answers.specs.declared.request.Which.{Which}
+use Rattle.cron_rota_answers.specs.declared.request.Which.TheVariants.{Between, At}
+use Rattle.cron_rota_answers.specs.declared.trouble.RotaTrouble.{RotaTrouble}
+use Rattle.cron_rota_answers.specs.declared.trouble.RotaTrouble.TheVariants.{Words, People, Swaps}
+
+-- ---- times
+
+-- what is asked is what the words ask, with the instants that they name
+abbrev pub IsAsked : Which → TimeZone → ℤ → Asked → Type 0
+IsAsked (Between start end) z now (asked.Between t u) = IsSpan (Ends start end) z now t.nanosecond u.nanosecond
+IsAsked (At at) z now (asked.At t) = IsInstant at.now z now (Some t.nanosecond)
+IsAsked _ z now _ = ⊥
+
+-- the word is no instant
+abbrev pub IsNoInstant : List ℕ → TimeZone → ℤ → Trouble → Type 0
+IsNoInstant text z now (Instant word) = (word.now ≡ text) × IsInstant text z now None
+IsNoInstant text z now _ = ⊥
+
+abbrev pub IsNotAsked : Which → TimeZone → ℤ → Trouble → Type 0
+IsNotAsked (Between start end) z now t = IsNoSpan (Ends start end) z now t
+IsNotAsked (At at) z now t = IsNoInstant at.now z now t
+
+-- the instant at which the rota starts, in nanoseconds since 1970, and what is asked of it
+abbrev pub AreTimes : Request → TimeZone → ℤ → ℤ → Asked → Type 0
+AreTimes r z now start what = IsInstant r.from.now z now (Some start) × IsAsked r.which z now what
+
+-- the start is no instant, or nothing is asked
+abbrev pub AreNoTimes : Request → TimeZone → ℤ → Trouble → Type 0
+AreNoTimes r z now t =
+    IsNoInstant r.from.now z now t ⊎ ((start : ℤ) × IsInstant r.from.now z now (Some start) × IsNotAsked r.which z now t)
+
+-- ---- swaps
+
+-- the swaps of a file; none if there is no file
+abbrev pub AreSwapsOf : Given → Option SwapFile → List Swap → Type 0
+AreSwapsOf g None swaps = swaps ≡ []
+AreSwapsOf g (Some file) swaps = AreSwaps g (lines_of file.bytes.now) swaps
+
+-- why a file has no swaps
+abbrev pub AreNoSwapsOf : Given → Option SwapFile → RotaTrouble → Type 0
+AreNoSwapsOf g (Some file) (Swaps name why) = (name.now ≡ file.name.now) × AreWrong g (lines_of file.bytes.now) why
+AreNoSwapsOf g _ _ = ⊥
+
+-- ---- all words
+
+-- the words mean a rota of these people, which starts at an instant, with these swaps, and this is
+-- asked of it
+pub record IsPlan (r : Request) (z : TimeZone) (now start : ℤ) (what : Asked) (names : List (List ℕ)) (swaps : List Swap) : Type 0 where
+  pub times : AreTimes r z now start what
+  pub people : ArePeople r.people.now names
+  pub are_swaps : AreSwapsOf (given names z now) r.swaps swaps
+
+-- the start and what is asked are known
+abbrev pub HasTimes : Request → TimeZone → ℤ → Type 0
+HasTimes r z now = (start : ℤ) × (what : Asked) × AreTimes r z now start what
+
+-- why the words mean nothing: the first that is wrong of the start, what is asked, the people, and
+-- the file of swaps
+abbrev pub IsNoPlan : Request → TimeZone → ℤ → RotaTrouble → Type 0
+IsNoPlan r z now (Words t) = AreNoTimes r z now t
+IsNoPlan r z now (People why) = HasTimes r z now × AreNoPeople r.people.now why
+IsNoPlan r z now (Swaps name why) =
+    HasTimes r z now × ((names : List (List ℕ)) × ArePeople r.people.now names × AreNoSwapsOf (given names z now) r.swaps (Swaps name why))
