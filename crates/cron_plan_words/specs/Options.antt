@@ -31,14 +31,14 @@ is_on_steps (Some s) n = is_on_step s n
 abbrev pub is_no_holiday : List Date → ℕ → Bool
 is_no_holiday dates n = not (is_listed dates n)
 
--- the day is none of the dates of `--holidays`, if it is there
-abbrev pub is_working_day : Option (Bor (List Date)) → ℕ → Bool
-is_working_day None n = true
-is_working_day (Some dates) n = is_no_holiday dates.now n
+-- the day is none of the dates of `--holidays`; without that option each day is none
+abbrev pub is_none_of : Option (Bor (List Date)) → ℕ → Bool
+is_none_of None n = true
+is_none_of (Some dates) n = is_no_holiday dates.now n
 
 -- the day is on a step, from the first day to the last one, and no holiday
 abbrev pub allows_options : Options → ℕ → Bool
-allows_options o n = is_on_steps o.every n && (is_between o.first o.last n && is_working_day o.holidays n)
+allows_options o n = is_on_steps o.every n && (is_between o.first o.last n && is_none_of o.holidays n)
 
 -- why `--every` is refused: it is no rule, or memory ran out
 abbrev pub RefusesStep : Step → RuleError → Type 0

@@ -66,6 +66,7 @@ fn shift_rows<S: CivilSeconds, R: Rule>(
         (texts words.now.names.now)
         (shifts_between rota.now (second_of from.nanosecond) (second_of to.nanosecond)) rows.items) }
 {
+    // (by its contract each of these is an instant, and so are the ends of shifts between them)
     let (_from, _to) = (second_of(from), second_of(to));
     let mut rows = Vec::new(alloc);
     for shift in rota.shifts(from, to) {

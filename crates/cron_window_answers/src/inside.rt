@@ -24,14 +24,14 @@ use std::alloc::Global;
 pub struct Request<'a> {
     /// The arguments that name the windows.
     pub words: Words<'a>,
-    /// The argument AT, an instant: `now` if it is left out.
+    /// The value of `--at`, an instant: `now` if it is left out.
     pub at: &'a str,
     /// How the answer is written.
     pub form: Form,
 }
 
-/// Answers a request: writes one line to `out` on whether a window is open at AT, since when and
-/// until when, and what is wrong to `complaints`. The state is followed 400 days back and ahead.
+/// Answers a request: writes one line to `out` on whether a window is open at the instant, since
+/// when and until when, and what is wrong to `complaints`. The state is followed 400 days back and ahead.
 /// The status is `Done` if a window is open, else `No`. No call of the writers may have failed
 /// before.
 pub fn answer<F: ZoneFiles, W: Watchable, C: Watchable>(

@@ -8,7 +8,7 @@ use cron_answers::expression::{Expression, read_as};
 use cron_answers::trouble::Trouble;
 use cron_days::day::RuleError;
 use cron_days::rule::Rule;
-use cron_holidays::{HolidayFault, read_holidays};
+use cron_holidays::{HolidayFault, Refused, read_holidays};
 use cron_plan_words::options::{Options, Step};
 use cron_plan_words::rules::rules_of;
 use cron_plan_words::steps::step_of;
@@ -174,10 +174,10 @@ fn holidays_of(rt: &HostRuntime, words: &ArgMatches<'_>) -> Result<Option<Vec<Da
 
 // Writes which line of a file of holidays is refused. Returns the status of the subcommand.
 fn say_fault(rt: &HostRuntime, path: &str, fault: &HolidayFault) -> Status {
-    if matches!(fault, HolidayFault::OutOfMemory) {
+    let HolidayFault::Refused(Refused { line, reason }) = fault else {
         return no_memory(rt);
-    }
-    match eprintln!(rt; "error: {path}: {fault}") {
+    };
+    match eprintln!(rt; "error: {path}:{line}: {reason}") {
         Ok(()) => Status::Unreadable,
         Err(_) => Status::WriteFailed,
     }

@@ -147,7 +147,7 @@ pub(crate) const PLAN: [Word; 6] = [
         "every",
         Kind::Choice("STEP"),
         &[Rule::With("anchor")],
-        "One day, week or month in so many, as 3d, 2w or 2mo",
+        "Every third day is 3d, every other week 2w, or month 2mo",
     ),
     Word(
         "anchor",
@@ -177,6 +177,6 @@ pub(crate) const PLAN: [Word; 6] = [
         "except",
         Kind::Choice("EXPRESSION"),
         &[],
-        "Leaves out what this matches too",
+        "Leaves out what this matches",
     ),
 ];
