@@ -5,6 +5,7 @@ octets, end with CRLF and be UTF-8 by itself. Where Python has `icalendar`, that
 the days is tried against the expressions."""
 import datetime as dates
 import functools
+import hashlib
 import re
 from zoneinfo import ZoneInfo
 
@@ -18,6 +19,8 @@ except ImportError:
 UTC, MINUTE = dates.timezone.utc, dates.timedelta(minutes=1)
 HEAD = ["BEGIN:VCALENDAR", "VERSION:2.0", "PRODID:-//crontool//crontool ics//EN"]
 NAMES = ["BEGIN", "UID", "DTSTAMP", "DTSTART", "DURATION", "SUMMARY", "TRANSP", "END"]
+# the same of an event with an end
+SPAN_NAMES = [name.replace("DURATION", "DTEND") for name in NAMES]
 
 # zone, first day, days, options, and for each expression its minutes, hours and days
 CASES = [
@@ -71,18 +74,19 @@ def time_of(stamp):
     return dates.datetime.strptime(stamp, "%Y%m%dT%H%M%SZ").replace(tzinfo=UTC)
 
 
-def read(written):
-    """The events: each its start, summary, duration and UID. And what is wrong."""
+def read(written, names=NAMES):
+    """The events: each its start, summary, duration or end, and UID. And what is wrong."""
     lines, wrong = lines_of(written)
     if lines[:3] != HEAD or lines[-1:] != ["END:VCALENDAR"]:
         wrong.append(f"the calendar begins with {lines[:3]} and ends with {lines[-1:]}")
     events, inner = [], [it.partition(":") for it in lines[3:-1]]
-    for at in range(0, len(inner), len(NAMES)):
-        event = {name: value for name, _, value in inner[at : at + len(NAMES)] if name != "END"}
+    for at in range(0, len(inner), len(names)):
+        event = {name: value for name, _, value in inner[at : at + len(names)] if name != "END"}
         late = abs(dates.datetime.now(UTC) - time_of(event["DTSTAMP"]))
-        if [it[0] for it in inner[at : at + len(NAMES)]] != NAMES or late > dates.timedelta(minutes=10) or event["BEGIN"] != "VEVENT":
+        if [it[0] for it in inner[at : at + len(names)]] != names or late > dates.timedelta(minutes=10) or event["BEGIN"] != "VEVENT":
             wrong.append(f"an event is {event}")
-        events.append((time_of(event["DTSTART"]), meant(event["SUMMARY"]), event["DURATION"], event["UID"]))
+        length = event["DURATION"] if "DURATION" in event else time_of(event["DTEND"])
+        events.append((time_of(event["DTSTART"]), meant(event["SUMMARY"]), length, event["UID"]))
     if len({it[3] for it in events}) != len(events):
         wrong.append("two events have one UID")
     if icalendar and events:
@@ -90,6 +94,20 @@ def read(written):
         if found != [it[:2] for it in events]:
             wrong.append("icalendar reads other events")
     return events, wrong
+
+
+def span_faults(series, spans, told):
+    """Gives what differs from the events of spans, each its first second, its end and its summary. Another program reads them, and
+    each UID is made of the series' text and the two ends."""
+    events, wrong = read(told.out, SPAN_NAMES) if told.out else ([], [])
+    yield from wrong
+    digest = hashlib.sha256(series.encode()).hexdigest()[:32]
+    found = [(int(start.timestamp()), int(end.timestamp()), summary, uid) for start, summary, end, uid in events]
+    wanted = [(*it, f"{digest}-{it[0]}-{it[1]}@t") for it in spans]
+    if found != wanted:
+        yield f"{len(found)} events and not {len(wanted)}: {[it for it in found if it not in wanted][:2]}, {[it for it in wanted if it not in found][:2]}"
+    if told.status != (0 if spans else 1) or bool(told.err) == bool(spans):
+        yield f"status {told.status}, {told.err}"
 
 
 def is_once(options, text):

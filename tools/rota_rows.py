@@ -8,6 +8,7 @@ import random
 import zoneinfo
 
 from cases import Call, Check
+from ics_events import span_faults
 from window_rows import ZONES, people_of, second_of, stretches
 
 NAMES = ["ann", "bob", "Dörte K.", "o'neill \"x\"", "e", "f", "g"]
@@ -107,6 +108,10 @@ def rota_checks():
         yield Check(f"shifts of {what}", [Call([*span, *words], files=files)], functools.partial(faults_of, text_rows(shifts, zone), 0))
         rows = [{"from": printed(a, zone), "until": printed(b, zone), "person": NAMES[person]} for a, b, person in shifts]
         yield Check(f"the same as JSON of {what}", [Call([*span, *words, "--json"], files=files)], functools.partial(faults_of, rows, 0))
+        spans = [(a, b, NAMES[person]) for a, b, person in shifts]
+        series = f"rota\n{words[1]}\n{handover}\n@{begin}\n"
+        call = Call([*span, *words, "--ics", "--uid-domain", "t"], files=files)
+        yield Check(f"the same as events of {what}", [call], functools.partial(span_faults, series, spans))
         edges = {random_of.choice(shifts)[0] + random_of.choice((-1, 0, 1)) for _ in range(8) if shifts} | {begin, begin - 1}
         for at in sorted(edges):
             found = shifts_of(people, zone, scanned, rule, begin, at, at + 1, swaps)

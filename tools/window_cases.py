@@ -11,6 +11,7 @@ import random
 import zoneinfo
 
 from cases import Call, Check
+from ics_events import span_faults
 from window_rows import BEFORE, DAY, ZONES, around, open_seconds, second_of, stretches
 
 REACH = 400 * DAY
@@ -106,6 +107,16 @@ def cases():
             yield zone, words_of(zone, opens, closing, chosen), rule, scanned, closes, second_of(first), second_of(end)
 
 
+def events_check(words, first, end, found):
+    """Returns the check of the windows as events. What closes them stands in their series as expression or as seconds."""
+    title = ["--summary", "Wartung; 2, \\ \u20ac"] if len(found) % 2 else []
+    closes = f"{int(words[3]) * 60} s" if words[2] == "--minutes" else words[3]
+    spans = [(low, high, title[1] if title else "open") for low, high, value in found if value]
+    call = Call(["windows", stamp(first), stamp(end), *words, "--ics", "--uid-domain", "t", *title])
+    faults = functools.partial(span_faults, f"windows\n{words[1]}\n{closes}\n", spans)
+    return Check(f"events of windows {' '.join(words)}", [call], faults)
+
+
 def checks():
     random_of = random.Random(5)
     for zone, words, rule, opens, closing, first, end in cases():
@@ -113,6 +124,7 @@ def checks():
         base = first - side - BEFORE
         state = open_seconds(rule, zone, opens, closing, base, end + side)
         found = stretches(state, base, first, end)
+        yield events_check(words, first, end, found)
         for more in ([], ["--json"]):
             lines = [*rows_of(zone, found, bool(more))]
             call = Call(["windows", stamp(first), stamp(end), *words, *more])

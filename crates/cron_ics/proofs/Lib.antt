@@ -12,3 +12,4 @@ pub mod SummaryLaws
 pub mod SpanLines
 pub mod BodyLemmas
 pub mod HeadingLemmas
+pub mod PageLemmas

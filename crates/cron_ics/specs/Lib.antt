@@ -7,4 +7,5 @@ pub mod Events
 pub mod Calendars
 pub mod Reading
 pub mod Spans
+pub mod Pages
 pub mod Laws

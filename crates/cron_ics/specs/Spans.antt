@@ -1,9 +1,9 @@
 -- Events that last from one instant to another.
-use Rattle.std.specs.Prelude.{◌≡◌, ◌<◌, ◌^◌, ℕ, ℤ, nat_abs, true, List, [], ◌∷◌, ◌++◌, codes}
+use Rattle.std.specs.Prelude.{◌≡◌, ◌<◌, ◌<ℤ◌, ◌^◌, ℕ, ℤ, nat_abs, true, List, [], ◌∷◌, ◌++◌, codes}
 use Rattle.std.specs.Fmt.{signed_decimal}
 use Rattle.std.specs.Str.{IsUtf8}
 use Rattle.jiff_core.specs.DateTime.{civil_nanos}
-use Rattle.jiff_core.specs.Timestamp.{nanos_of_seconds}
+use Rattle.jiff_core.specs.Timestamp.{IsTimestampNanos, nanos_of_seconds}
 use Rattle.jiff_core.specs.declared.civil.datetime.DateTime.{DateTime}
 use Rattle.cron_ics.specs.Domains.{is_domain}
 use Rattle.cron_ics.specs.Events.{digest_text, folded_lines, summary_line}
@@ -31,6 +31,10 @@ abbrev pub span_text : Series → List ℕ → ℤ → ℤ → DateTime → Date
 span_text s summary from until stamp start end =
     folded_lines
     (span_lines (span_uid (digest_text s.text.now) from until s.domain.text.now) (end_lines stamp start end) (summary_line summary))
+
+-- a span may last from the one second to the other: a `Timestamp` names both, and the second is later
+abbrev pub AreEnds : ℤ → ℤ → Type 0
+AreEnds from until = IsTimestampNanos (nanos_of_seconds from) × IsTimestampNanos (nanos_of_seconds until) × (from <ℤ until)
 
 -- The text has the event of a span of the series. It begins at the second `from` and ends at
 -- `until`, and its three times are those that UTC shows.

@@ -10,6 +10,8 @@ mod event;
 mod fires;
 mod fold;
 pub mod laws;
+pub mod pages;
+mod span;
 pub mod spans;
 mod stamp;
 pub mod write;

@@ -11,8 +11,8 @@ use cron_writer::watchable::Watchable;
 use cron_writer::watched::{Watched, send};
 use std::alloc::Global;
 
-// Flushes the writer, unless a call of the writer has failed.
-fn flush<W: Watchable>(out: &mut Watched<W>)
+/// Flushes the writer, unless a call of the writer has failed.
+pub(crate) fn flush<W: Watchable>(out: &mut Watched<W>)
     ensures bytes { (origin : Option (List ℕ)) (text : List ℕ)
         → IsSent origin (W.contents (writer_of out.old)) (has_failed out.old) text
         → IsSent origin (W.contents (writer_of out.new)) (has_failed out.new) text }

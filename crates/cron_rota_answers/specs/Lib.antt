@@ -9,3 +9,4 @@ pub mod Plans
 pub mod Troubles
 pub mod RotaAnswers
 pub mod Inner
+pub mod Gathering

@@ -3,10 +3,11 @@ use Rattle.std.specs.Prelude.{◌≡◌, ◌⊎◌, ℕ, ℤ, List, [], Option, 
 use Rattle.jiff_tz.specs.declared.timezone.TimeZone.{TimeZone}
 use Rattle.cron_answers.specs.Instants.{IsInstant}
 use Rattle.cron_answers.specs.Spans.{IsNoSpan, IsSpan}
-use Rattle.cron_answers.specs.declared.span.Span.TheVariants.{Ends}
+use Rattle.cron_answers.specs.declared.span.Span.{Span}
 use Rattle.cron_answers.specs.declared.trouble.Trouble.{Trouble}
 use Rattle.cron_answers.specs.declared.trouble.Trouble.TheVariants.{Instant}
 use Rattle.cron_rotas.specs.declared.swap.Swap.{Swap}
+use Rattle.cron_stretches.specs.Fires.{second_of, whole_second}
 use Rattle.cron_rota_answers.specs.Lines.{lines_of}
 use Rattle.cron_rota_answers.specs.People.{AreNoPeople, ArePeople}
 use Rattle.cron_rota_answers.specs.Swaps.{AreSwaps, AreWrong, Given, given}
@@ -21,9 +22,13 @@ use Rattle.cron_rota_answers.specs.declared.trouble.RotaTrouble.TheVariants.{Wor
 
 -- ---- times
 
--- what is asked is what the words ask, with the instants that they name
+-- the first whole seconds from the two ends of a span on
+abbrev pub AreWholeEnds : Span → TimeZone → ℤ → ℤ → ℤ → Type 0
+AreWholeEnds span z now first end = (from : ℤ) × (to : ℤ) × IsSpan span z now from to × (first ≡ whole_second from) × (end ≡ whole_second to)
+
+-- what is asked is what the words ask: between whole seconds, or at an instant
 abbrev pub IsAsked : Which → TimeZone → ℤ → Asked → Type 0
-IsAsked (Between start end) z now (asked.Between t u) = IsSpan (Ends start end) z now t.nanosecond u.nanosecond
+IsAsked (Between span) z now (asked.Between t u) = AreWholeEnds span z now (second_of t.nanosecond) (second_of u.nanosecond)
 IsAsked (At at) z now (asked.At t) = IsInstant at.now z now (Some t.nanosecond)
 IsAsked _ z now _ = ⊥
 
@@ -33,7 +38,7 @@ IsNoInstant text z now (Instant word) = (word.now ≡ text) × IsInstant text z 
 IsNoInstant text z now _ = ⊥
 
 abbrev pub IsNotAsked : Which → TimeZone → ℤ → Trouble → Type 0
-IsNotAsked (Between start end) z now t = IsNoSpan (Ends start end) z now t
+IsNotAsked (Between span) z now t = IsNoSpan span z now t
 IsNotAsked (At at) z now t = IsNoInstant at.now z now t
 
 -- the instant at which the rota starts, in nanoseconds since 1970, and what is asked of it

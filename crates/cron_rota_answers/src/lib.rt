@@ -4,6 +4,7 @@
 
 mod cells;
 mod columns;
+pub mod gathering;
 pub mod people;
 mod plan;
 mod report;

@@ -12,9 +12,10 @@ use crate::request::{Request, SwapFile, Which};
 use crate::swaps::swaps_of;
 use crate::trouble::RotaTrouble;
 use cron_answers::instant::instant_of;
-use cron_answers::span::{Span, ends_of};
+use cron_answers::span::ends_of;
 use cron_answers::trouble::Trouble;
 use cron_rotas::swap::Swap;
+use cron_stretches::fires::{instant_at, whole_second};
 use jiff::Timestamp;
 use jiff::tz::TimeZone;
 use std::alloc::Global;
@@ -28,7 +29,8 @@ pub(crate) struct Plan<'a> {
     pub(crate) swaps: Vec<Swap>,
 }
 
-// What is asked. `Err` has the first text that is no instant, or says that START comes after END.
+// What is asked. `Err` has the first text that is no instant or no span, or says that START comes
+// after END.
 fn asked_of<'a>(
     which: &Which<'a>,
     zone: &TimeZone<'_>,
@@ -38,8 +40,12 @@ fn asked_of<'a>(
         (IsNotAsked which.now (plain_zone zone.now) now.nanosecond) }
 {
     match *which {
-        Which::Between(start, end) => match ends_of(&Span::Ends(start, end), zone, now) {
-            Ok(ends) => Ok(Asked::Between(ends.0, ends.1)),
+        Which::Between(span) => match ends_of(&span, zone, now) {
+            Ok(ends) => {
+                let first = instant_at(whole_second(ends.0));
+                let end = instant_at(whole_second(ends.1));
+                Ok(Asked::Between(first, end))
+            }
             Err(trouble) => Err(trouble),
         },
         Which::At(at) => match instant_of(at, zone, now) {

@@ -150,7 +150,7 @@ fn report_of<S: CivilSeconds, R: Rule>(
     }
 }
 
-fn rota_of<'a, S: CivilSeconds, R: Rule>(
+pub(crate) fn rota_of<'a, S: CivilSeconds, R: Rule>(
     duty: &Duty<'a>,
     handovers: S,
     clock: &'a R::Clock,

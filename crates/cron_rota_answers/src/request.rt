@@ -1,13 +1,14 @@
 //! The arguments of `rota`, not read yet.
 
+use cron_answers::span::Span;
 use cron_fires::ClockChanges;
 use cron_replies::form::Form;
 
 /// What is asked of a rota, as in the arguments: instants are texts that aren't read yet.
 #[derive(Clone, Copy)]
 pub enum Which<'a> {
-    /// The shifts between START and END.
-    Between(&'a str, &'a str),
+    /// The shifts of a span: of START and END, or of one word.
+    Between(Span<'a>),
     /// Who is on duty at the value of `--at`.
     At(&'a str),
 }

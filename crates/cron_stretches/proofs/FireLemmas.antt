@@ -9,7 +9,13 @@ use Rattle.cron_clocks.proofs.Windows.{le_yes, lt_yes}
 use Rattle.cron_time.proofs.ListLemmas.{among-cases, among-filter, among-first, among-join, among-map, among-none, among-rest, filter-among, join-among, map-among}
 use Rattle.cron_seconds.specs.Rules.{AreInOrder, IsAmong, IsFirstOf, IsOrder, all_after, all_back, all_before, all_past, is_after, is_by}
 use Rattle.cron_seconds.proofs.IntLemmas.{int_le-true, int_lt-true}
-use Rattle.cron_stretches.specs.Fires.{IsLatest, IsNext, instants}
+use Rattle.cron_stretches.specs.Fires.{IsLatest, IsNext, instants, second_of}
+
+-- ---- seconds of instants
+
+-- the second that an instant begins is its own
+pub own_second : (n t : ℤ) → t ≡ n *ℤ pos 1_000_000_000 → second_of t ≡ n
+own_second n t is = omega (arith, signed_arith)
 
 -- ---- a list of which one passes a test
 

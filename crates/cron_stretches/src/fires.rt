@@ -1,10 +1,13 @@
 //! The nearest fires of a set around a second.
 ghost use Rattle.std.specs.Prelude.{◌≡◌, ◌*ℤ◌, pos};
-ghost use Rattle.cron_stretches.specs.Fires.{IsInstant, IsLatest, IsNext, instants, second_of};
+ghost use Rattle.cron_stretches.specs.Fires.{IsInstant, IsLatest, IsNext, instants, second_of, whole_second};
 
 use cron_seconds::civil_seconds::CivilSeconds;
 use cron_seconds::rule::Rule;
 use jiff::Timestamp;
+
+/// The last second that a `Timestamp` names.
+const LAST: i128 = 253_402_207_200;
 
 /// The second in which an instant lies, counted from 1970-01-01T00:00:00Z.
 pub fn second_of(instant: Timestamp) -> i64
@@ -12,6 +15,16 @@ pub fn second_of(instant: Timestamp) -> i64
     ensures in_range { IsInstant result }
 {
     instant.to_plain().floor_second()
+}
+
+/// The first second that begins at an instant or after it, counted from 1970-01-01T00:00:00Z. After
+/// the last one that a `Timestamp` names, it is that one.
+pub fn whole_second(instant: Timestamp) -> i64
+    ensures second { result ≡ whole_second instant.nanosecond }
+    ensures in_range { IsInstant result }
+{
+    let nanos = instant.as_nanosecond() + 999_999_999;
+    nanos.div_euclid(1_000_000_000).min(LAST) as i64
 }
 
 /// The instant at which `second` begins.

@@ -8,10 +8,6 @@ use Rattle.cron_stretches.specs.Fires.{IsInstant, second_of}
 use Rattle.cron_stretches.specs.Stretches.{IsGreatest}
 use Rattle.cron_stretches.specs.declared.stretch.Stretch.{Stretch}
 
--- the second that an instant begins is its own
-pub own_second : (n t : ℤ) → t ≡ n *ℤ pos 1_000_000_000 → second_of t ≡ n
-own_second n t is = omega (arith, signed_arith)
-
 -- each instant lies in a second that begins at one
 pub instant-second : (t : ℤ) → IsTimestampNanos t → IsInstant (second_of t)
 instant-second t h = (omega (arith, signed_arith), omega (arith, signed_arith))

@@ -4,3 +4,4 @@ pub mod Listings
 pub mod States
 pub mod Windows
 pub mod Answers
+pub mod Gathering

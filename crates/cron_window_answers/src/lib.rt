@@ -2,6 +2,7 @@
 //! between two instants, and `inside` says whether one is open at an instant.
 #![tactic(auto)]
 
+pub mod gathering;
 pub mod inside;
 mod listing;
 mod row;

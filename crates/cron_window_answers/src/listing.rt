@@ -1,40 +1,26 @@
 //! The windows between two instants as rows.
 
-ghost use Rattle.std.specs.Prelude.{◌≡◌, ◌+ℤ◌, pos, [], false};
-ghost use Rattle.std.specs.Int.{int_min};
+ghost use Rattle.std.specs.Prelude.{◌≡◌, [], false};
 ghost use Rattle.jiff.specs.Words.{plain_zone};
-ghost use Rattle.cron_stretches.specs.Fires.{IsInstant, second_of};
+ghost use Rattle.cron_stretches.specs.Fires.{second_of};
 ghost use Rattle.cron_windows.specs.Windows.{is_open, windows_between};
 ghost use Rattle.cron_writer.specs.Calls.{AreWrites, AreWritesFlushed};
 ghost use Rattle.cron_writer.specs.Watching.{has_failed, kept_in, writer_of, IsGathered, IsSent};
 ghost use Rattle.cron_replies.specs.Statuses.{is_write_failure};
-ghost use Rattle.cron_window_answers.specs.Listings.{ListsBetween, whole_second};
+ghost use Rattle.cron_window_answers.specs.Listings.{ListsBetween};
 ghost use Rattle.cron_window_answers.specs.Rows.{rows};
 
 use crate::row::row_of;
 use cron_fires::{CivilSeconds, Rule};
 use cron_replies::form::Form;
 use cron_replies::status::{Status, finish};
-use cron_stretches::fires::instant_at;
+use cron_stretches::fires::{instant_at, whole_second};
 use cron_windows::windows::Windows;
 use cron_writer::gathered::Gathered;
 use cron_writer::watchable::Watchable;
 use cron_writer::watched::Watched;
 use jiff::Timestamp;
 use jiff::tz::TimeZone;
-
-/// The last second that a `Timestamp` names.
-const LAST: i128 = 253_402_207_200;
-
-// The first whole second that begins at an instant or after it. After the last one there is, it is
-// that one.
-fn whole_second(instant: Timestamp) -> i64
-    ensures second { result ≡ whole_second instant.nanosecond }
-    ensures in_range { IsInstant result }
-{
-    let nanos = instant.as_nanosecond() + 999_999_999;
-    nanos.div_euclid(1_000_000_000).min(LAST) as i64
-}
 
 // Gathers the rows of the windows from `from` on and before `to`, until a write fails.
 fn gather_rows<S: CivilSeconds, C: CivilSeconds, R: Rule, W: Watchable>(

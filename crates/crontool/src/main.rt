@@ -5,6 +5,7 @@
 
 mod done;
 mod due;
+mod events;
 mod explain;
 mod late;
 mod oncalendar;

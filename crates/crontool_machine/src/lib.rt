@@ -1,8 +1,10 @@
 //! What subcommands of `crontool` share: access to the machine, the zones that crontabs name, what
-//! options choose, how times are written, notes of runs, and tips about names that are nearly right.
+//! options choose, how times are written, the domain of calendars, notes of runs, and tips about names
+//! that are nearly right.
 #![tactic(auto)]
 
 pub mod choices;
+pub mod domains;
 pub mod looks;
 pub mod machine;
 pub mod notes;

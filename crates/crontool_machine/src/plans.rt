@@ -18,9 +18,6 @@ use cron_replies::status::Status;
 use cron_units::way::Way;
 use jiff::civil::Date;
 
-/// Why `--move` is refused alone.
-const NO_DAYS: &str = "--move wants --every, --first, --last or --holidays";
-
 /// A plan as the words of a subcommand ask for it, or that they ask for none.
 #[derive(Drop)]
 pub struct Planning {
@@ -47,7 +44,7 @@ impl Planning {
             except: without.is_some(),
         };
         if options.moves.is_some() && !has_days(&options) {
-            return Err(complain(rt, NO_DAYS, Status::WrongWords));
+            return Err(say_no_days(rt, last));
         }
         let days = match rules_of(rt.alloc(), &options) {
             Ok(days) => days,
@@ -93,6 +90,15 @@ fn has_days(options: &Options<'_>) -> bool {
         || options.first.is_some()
         || options.last.is_some()
         || options.holidays.is_some()
+}
+
+// Writes that `--move` stands alone. `last` is the name of the option with the last day. Returns the
+// status of the subcommand.
+fn say_no_days(rt: &HostRuntime, last: &str) -> Status {
+    match eprintln!(rt; "error: --move wants --every, --first, --{last} or --holidays") {
+        Ok(()) => Status::WrongWords,
+        Err(_) => Status::WriteFailed,
+    }
 }
 
 // Writes why a rule can't be made. Returns the status of the subcommand.

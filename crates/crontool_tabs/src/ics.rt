@@ -19,8 +19,9 @@ use cron_tab_lines::{Crontab, Line, Lines, NamedZone, zone_below};
 use cron_tab_warnings::text_of;
 use cron_writer::watched::Watched;
 use crontool_machine::choices::changes_of;
+use crontool_machine::domains::{domain_of, domain_text};
 use crontool_machine::machine::{
-    Surroundings, complain, no_memory, open_zone, read_all, read_file, say_trouble,
+    Surroundings, complain, no_memory, open_zone, read_all, say_trouble,
 };
 use crontool_machine::plans::Planning;
 use crontool_machine::zones::TabZones;
@@ -30,9 +31,6 @@ use std::io;
 
 /// The greatest number of events, unless another is chosen.
 const MOST: u64 = 10_000;
-
-/// The file that holds the machine's name.
-const HOST_FILE: &str = "/etc/hostname";
 
 /// The number of minutes of the longest event: a leap year.
 const MOST_MINUTES: u64 = 527_040;
@@ -118,46 +116,6 @@ fn entries_of<'a>(
         }
     }
     Ok(entries)
-}
-
-// The machine's name: the first line of its file that is neither empty nor a comment. `None` if
-// that is no domain.
-fn host_of(file: &[u8]) -> Option<Domain<'_>> {
-    for line in file.split(|byte| *byte == b'\n') {
-        let name = line.trim_ascii();
-        if !name.is_empty() && !name.starts_with(b"#") {
-            return Domain::new(name);
-        }
-    }
-    None
-}
-
-// The text of the domain that UIDs end with: the value of `--uid-domain`, or else the contents of
-// the file with the host's name. It is empty if that file can't be read.
-fn domain_text(rt: &HostRuntime, words: &ArgMatches<'_>) -> Result<Vec<u8>, Status> {
-    let Some(word) = words.get_str("uid-domain") else {
-        return Ok(read_file(rt, HOST_FILE).unwrap_or(Vec::new(rt.alloc())));
-    };
-    match Vec::from_slice(rt.alloc(), word.as_bytes()) {
-        Ok(text) => Ok(text),
-        Err(_) => Err(no_memory(rt)),
-    }
-}
-
-// The domain that UIDs end with, read from `text`, which is the value of `--uid-domain` if
-// `is_word`. If that value is wrong, a message says so, and `Err` has the status of the subcommand.
-fn domain_of<'a>(rt: &HostRuntime, text: &'a [u8], is_word: bool) -> Result<Domain<'a>, Status> {
-    if !is_word {
-        return Ok(host_of(text).unwrap_or(Domain::of_program()));
-    }
-    match Domain::new(text) {
-        Some(domain) => Ok(domain),
-        None => Err(complain(
-            rt,
-            "--uid-domain has letters, digits, '-', '.' and '_' alone",
-            Status::WrongWords,
-        )),
-    }
 }
 
 /// How long an event is, in minutes, and the greatest number of events.

@@ -2,8 +2,8 @@
 
 use crate::subcommands::Subcommand;
 use crate::words::{
-    AS_SHOWN, COLOR, END, EXPRESSIONS, FILE, Kind, LAST, ONCE, PLAN, QUARTZ, Rule, START, Word,
-    ZONE,
+    AN_UID_DOMAIN, AS_SHOWN, COLOR, END, EXPRESSIONS, FILE, Kind, LAST, ONCE, PLAN, QUARTZ, Rule,
+    START, Word, ZONE,
 };
 
 static CALENDAR: Subcommand = Subcommand {
@@ -74,12 +74,7 @@ static ICS: Subcommand = Subcommand {
             &[],
             "How many events at most: 10000 if left out",
         ),
-        Word(
-            "uid-domain",
-            Kind::Choice("NAME"),
-            &[],
-            "What UIDs end with: the name in /etc/hostname if left out, or crontool",
-        ),
+        Word("uid-domain", Kind::Choice("NAME"), &[], AN_UID_DOMAIN),
         QUARTZ,
         ZONE,
         ONCE,

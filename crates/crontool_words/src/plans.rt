@@ -2,7 +2,8 @@
 
 use crate::subcommands::Subcommand;
 use crate::words::{
-    AN_OBJECT, AS_SHOWN, END, JSON_ROWS, Kind, ONCE, QUARTZ, Rule, START, Word, ZONE,
+    AN_ICS, AN_INSTANT_OR_DAY, AN_OBJECT, AS_SHOWN, END, JSON_ROWS, Kind, ONCE, QUARTZ, Rule,
+    START, UID_DOMAIN, Word, ZONE,
 };
 
 const OPENS: Word = Word(
@@ -35,10 +36,27 @@ static WINDOWS: Subcommand = Subcommand {
     ],
     examples: [
         "windows 2024-03 --opens '0 22 * * 5' --closes '0 6 * * 1'",
-        "windows today --opens '0 */4 * * *' --minutes 30 --json",
+        "windows 2024-03 --opens '0 22 * * 5' --minutes 30 --ics --summary Work",
     ],
     words: &[
-        START, END, OPENS, CLOSES, MINUTES, QUARTZ, ZONE, ONCE, AS_SHOWN, JSON_ROWS,
+        START,
+        END,
+        OPENS,
+        CLOSES,
+        MINUTES,
+        Word("ics", Kind::Flag, &[Rule::Without("json")], AN_ICS),
+        Word(
+            "summary",
+            Kind::Choice("TEXT"),
+            &[Rule::With("ics")],
+            "The title of each event: open if left out",
+        ),
+        UID_DOMAIN,
+        QUARTZ,
+        ZONE,
+        ONCE,
+        AS_SHOWN,
+        JSON_ROWS,
     ],
     plan: &[],
 };
@@ -85,13 +103,14 @@ pub(crate) fn inside() -> &'static Subcommand {
 
 static ROTA: Subcommand = Subcommand {
     name: "rota",
-    about: "Lists who is on duty from START to END, or tells who is at an instant",
+    about: "Lists who is on duty from START to END, or in a DAY, or tells who is at an instant",
     usages: &[
         "[OPTIONS] --people <NAMES> --handover <EXPRESSION> --from <INSTANT> <START> <END>",
+        "[OPTIONS] --people <NAMES> --handover <EXPRESSION> --from <INSTANT> <DAY>",
         "[OPTIONS] --people <NAMES> --handover <EXPRESSION> --from <INSTANT> --at <INSTANT>",
     ],
     examples: [
-        "rota 2024-03-01 2024-04-01 --people ann,bob --handover '0 9 * * 1' --from 2024-01-01",
+        "rota 2024-03 --people ann,bob --handover '0 9 * * 1' --from 2024-01-01 --ics",
         "rota --at now --people ann,bob --handover '0 9 * * 1' --from 2024-01-01 --swaps swaps.txt",
     ],
     words: &[
@@ -99,14 +118,9 @@ static ROTA: Subcommand = Subcommand {
             "START",
             Kind::Given,
             &[Rule::Unless("at"), Rule::Without("at")],
-            "An instant",
+            AN_INSTANT_OR_DAY,
         ),
-        Word(
-            "END",
-            Kind::Given,
-            &[Rule::Unless("at"), Rule::Without("at")],
-            "An instant",
-        ),
+        Word("END", Kind::Maybe, &[Rule::Without("at")], "An instant"),
         Word(
             "at",
             Kind::Choice("INSTANT"),
@@ -137,6 +151,13 @@ static ROTA: Subcommand = Subcommand {
             &[],
             "Who stands in: lines of FROM, UNTIL and a name, with tabs between",
         ),
+        Word(
+            "ics",
+            Kind::Flag,
+            &[Rule::Without("json"), Rule::Without("at")],
+            AN_ICS,
+        ),
+        UID_DOMAIN,
         QUARTZ,
         ZONE,
         ONCE,

@@ -63,12 +63,10 @@ pub(crate) const OTHER: Word = Word("OTHER", Kind::Given, &[], ANOTHER);
 
 pub(crate) const QUARTZ: Word = Word("quartz", Kind::Flag, &[], "Expressions are of Quartz");
 
-pub(crate) const START: Word = Word(
-    "START",
-    Kind::Given,
-    &[],
-    "An instant; or, without END, a day, a month or tonight",
-);
+/// What the help says of START where END may be left out.
+pub(crate) const AN_INSTANT_OR_DAY: &str = "An instant; or, without END, a day, a month or tonight";
+
+pub(crate) const START: Word = Word("START", Kind::Given, &[], AN_INSTANT_OR_DAY);
 
 pub(crate) const END: Word = Word("END", Kind::Maybe, &[], "An instant");
 
@@ -127,6 +125,21 @@ pub(crate) const COLOR: Word = Word(
     &[],
     "Colours: auto, always or never",
 );
+
+/// What UIDs of a calendar end with.
+pub(crate) const AN_UID_DOMAIN: &str =
+    "What UIDs end with: the name in /etc/hostname if left out, or crontool";
+
+/// `--uid-domain` where `--ics` chooses a calendar.
+pub(crate) const UID_DOMAIN: Word = Word(
+    "uid-domain",
+    Kind::Choice("NAME"),
+    &[Rule::With("ics")],
+    AN_UID_DOMAIN,
+);
+
+/// What the help says of `--ics`.
+pub(crate) const AN_ICS: &str = "A calendar of RFC 5545, with an event for each row";
 
 pub(crate) const RUNS: Word = Word("count", Kind::Count, &[], "How many runs at most");
 

@@ -1,7 +1,6 @@
 use Rattle.std.proofs.Common.{◌≡◌, ◌∙◌, rules, FitsSigned, w64, to_z-of_z}
-use Rattle.cron_stretches.specs.Fires.{second_of}
-use Rattle.cron_window_answers.specs.Listings.{whole_second}
-use Rattle.cron_window_answers.proofs.StateLemmas.{own_second}
+use Rattle.cron_stretches.specs.Fires.{second_of, whole_second}
+use Rattle.cron_stretches.proofs.FireLemmas.{own_second}
 use Rattle.cron_window_answers.proofs.listing.list.Goals as goal
 
 pub returns-clause-lists : goal.returns-clause-lists

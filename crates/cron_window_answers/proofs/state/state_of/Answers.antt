@@ -1,7 +1,8 @@
 use Rattle.std.proofs.Common.{rules, FitsSigned, w64, to_z-of_z}
 use Rattle.cron_windows.specs.Windows.{is_open}
 use Rattle.cron_stretches.specs.Fires.{second_of}
-use Rattle.cron_window_answers.proofs.StateLemmas.{own_second, state-is}
+use Rattle.cron_stretches.proofs.FireLemmas.{own_second}
+use Rattle.cron_window_answers.proofs.StateLemmas.{state-is}
 use Rattle.cron_window_answers.proofs.state.state_of.Goals as goal
 
 pub returns : goal.returns

@@ -1,0 +1,13 @@
+use Rattle.std.proofs.Common.{arith, rules}
+use Rattle.cron_findings.specs.Places.{end_column}
+use Rattle.cron_findings.proofs.PlaceLemmas.{within_line}
+use Rattle.cron_findings.proofs.places.end_column.Goals as goal
+
+pub overflow_add-result : goal.overflow_add-result
+overflow_add-result c =
+    let f = c.args.finding.now in
+    omega (arith, within_line f.start f.end f.bytes.now)
+
+pub returns : goal.returns
+unfolding end_column
+returns c = search rules

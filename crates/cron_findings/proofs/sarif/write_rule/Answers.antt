@@ -1,0 +1,19 @@
+use Rattle.std.proofs.Common.{ℕ}
+use Rattle.std.proofs.lemmas.Result.{on_ok_weaker}
+use Rattle.cron_findings.proofs.WritingLemmas.{written_7}
+use Rattle.cron_findings.proofs.sarif.write_rule.Goals as goal
+
+pub returns : goal.returns
+returns c =
+    on_ok_weaker c.end_object.result
+    (λ more. written_7 _ _ _ _ _ _ _
+    c.args.object.now.tokens c.begin_object.new.self.tokens c.write_string.new.object.tokens c.key.new.self.tokens c.write_message.new.object.tokens c.key-2.new.self.tokens c.write_message-2.new.object.tokens c.end_object.new.self.tokens
+    c.args.object.now.before c.begin_object.new.self.before c.write_string.new.object.before c.key.new.self.before c.write_message.new.object.before c.key-2.new.self.before c.write_message-2.new.object.before c.end_object.new.self.before
+    (c.in_ok-begin_object.ensures.ok, c.begin_object.ensures.room.0)
+    c.in_ok-write_string.ensures
+    (c.in_ok-key.ensures.ok, c.key.ensures.room.0)
+    c.in_ok-write_message.ensures
+    (c.in_ok-key-2.ensures.ok, c.key-2.ensures.room.0)
+    c.in_ok-write_message-2.ensures
+    (more, c.end_object.ensures.room.0))
+    c.end_object.ensures.ok

@@ -1,0 +1,8 @@
+use Rattle.std.proofs.Common.{◌≡◌, ◌++◌, take}
+use Rattle.std.specs.List.{flat_map}
+use Rattle.cron_findings.specs.Places.{feed_shown}
+use Rattle.cron_findings.proofs.shown.push_in_line.Given as goal
+
+-- the bytes up to here were pushed
+abbrev pub invariant-loop-byte : goal.invariant-loop-byte
+invariant-loop-byte l = l.text.items ≡ l.initial.text.items ++ flat_map feed_shown (take l.byte-index l.byte-items)

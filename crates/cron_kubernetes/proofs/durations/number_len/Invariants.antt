@@ -1,0 +1,6 @@
+use Rattle.std.proofs.Common.{◌≡◌, ◌<◌, ℕ, get_or, true}
+use Rattle.cron_kubernetes.specs.Durations.{is_numeral}
+use Rattle.cron_kubernetes.proofs.durations.number_len.Given as goal
+
+abbrev pub invariant-loop-at : goal.invariant-loop-at
+invariant-loop-at l = (k : ℕ) → k < l.at → is_numeral (get_or l.text k 0) ≡ true

@@ -1,0 +1,2 @@
+pub mod RemainderLemmas
+pub mod FieldLemmas
