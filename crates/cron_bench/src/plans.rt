@@ -10,15 +10,17 @@ use jiff::Timestamp;
 use jiff::civil::Date;
 use jiff::tz::TimeZone;
 
-/// Schedules, each with how many dates are left out.
-const RULES: [(&str, u32); 2] = [("0 30 9 * * Mon-Fri", 100), ("* * * * * *", 10_000)];
+/// Schedules, each with how many dates are left out, and how many fires are taken. All of these
+/// fires lie among the dates.
+const RULES: [(&str, u32, u32); 2] = [
+    ("0 30 9 * * Mon-Fri", 100, 140),
+    ("* * * * * *", 10_000, 200_000),
+];
 
-const FIRES: u32 = 10_000;
-
-/// Takes `FIRES` fires of a run. Returns the index of the last call that gave nothing, or 0.
-fn take_fires<S: CivilSeconds, R: Rule>(run: &mut Run<'_, S, R>) -> u32 {
+/// Takes `fires` fires of a run. Returns the index of the last call that gave nothing, or 0.
+fn take_fires<S: CivilSeconds, R: Rule>(run: &mut Run<'_, S, R>, fires: u32) -> u32 {
     let mut ended = 0;
-    for call in 0..FIRES {
+    for call in 0..fires {
         if run.next().is_none() {
             ended = call;
         }
@@ -37,8 +39,13 @@ fn dates_of(rt: &HostRuntime, count: u32) -> Result<Vec<Date>> {
     Ok(dates)
 }
 
-/// Prints the cost of a fire of a schedule, without a rule, and without `count` dates.
-fn time_rule(rt: &HostRuntime, text: &str, count: u32, zone: &TimeZone<'_>) -> Result<()> {
+/// Prints the cost of one of the first `fires` fires of a schedule, without a rule, and without
+/// `count` dates.
+fn time_rule(
+    rt: &HostRuntime,
+    (text, count, fires): (&str, u32, u32),
+    zone: &TimeZone<'_>,
+) -> Result<()> {
     let start = "2018-01-01T00:00:00Z".parse::<Timestamp>()?;
     let schedule = Schedule::from_str(rt.alloc(), text)?;
     let fields = fields_of(&schedule);
@@ -47,12 +54,12 @@ fn time_rule(rt: &HostRuntime, text: &str, count: u32, zone: &TimeZone<'_>) -> R
         seconds: fields,
         days: Dates::without(rt.alloc(), dates.as_slice())?,
     };
-    let cost = least_cost(rt, 20, FIRES, || {
-        take_fires(&mut Fires::after(&fields, start, zone))
+    let cost = least_cost(rt, 200, fires, || {
+        take_fires(&mut Fires::after(&fields, start, zone), fires)
     })?;
     println!(rt; "fires | {text} | {cost}")?;
-    let cost = least_cost(rt, 20, FIRES, || {
-        take_fires(&mut Fires::after(&set, start, zone))
+    let cost = least_cost(rt, 200, fires, || {
+        take_fires(&mut Fires::after(&set, start, zone), fires)
     })?;
     println!(rt; "fires | {text} without {count} dates | {cost}")?;
     Ok(())
@@ -60,8 +67,8 @@ fn time_rule(rt: &HostRuntime, text: &str, count: u32, zone: &TimeZone<'_>) -> R
 
 /// Prints the costs of each rule in UTC.
 pub fn run(rt: &HostRuntime) -> Result<()> {
-    for (text, count) in RULES {
-        time_rule(rt, text, count, &TimeZone::UTC)?;
+    for rule in RULES {
+        time_rule(rt, rule, &TimeZone::UTC)?;
     }
     Ok(())
 }
